@@ -1,0 +1,69 @@
+-- The tables that a caller lends: bytes, as a C struct lays the entries out. Assumes nothing.
+use mathlib.Core.Bool.{cond}
+use mathlib.Core.List.{List, [], _∷_, _++_}
+use Prim.Native.Nat.{ℕ, _-_, _*_, _/_, _%_, _^_, min}
+use lib.Dec.{ltb}
+use lib.ListN.{length, take, drop, replicate}
+use lib.Seq.{sets}
+
+-- `TokenType`'s order from 1, the numeral's value and suffix (0 none, 1 felt, 2 u32, 3 other), the place in the text
+pub record Token : Type 0 where
+  pub kind : ℕ
+  pub suffix : ℕ
+  pub start : ℕ
+  pub end : ℕ
+  pub value : ℕ
+
+-- reason 1 character, 2 overflow, 3 format, 4 unknown suffix
+pub record Diagnostic : Type 0 where
+  pub start : ℕ
+  pub end : ℕ
+  pub reason : ℕ
+
+-- little-endian numbers of 16 and 64 bits
+unfoldable pub le16 : ℕ → List ℕ
+le16 v = v % 256 ∷ v / 256 % 256 ∷ []
+
+unfoldable pub le64 : ℕ → List ℕ
+le64 v =
+    v % 256 ∷ v / 2 ^ 8 % 256 ∷ v / 2 ^ 16 % 256 ∷ v / 2 ^ 24 % 256 ∷ v / 2 ^ 32 % 256 ∷ v / 2 ^ 40 % 256 ∷ v / 2 ^ 48 % 256 ∷ v / 2 ^ 56 % 256 ∷ []
+
+-- an entry of 16 bytes: kind u8, suffix u8, start u16, end u16, two zero bytes, value u64
+unfoldable pub encodeToken : Token → List ℕ
+unfolding le16 le64
+encodeToken t = (t .kind ∷ t .suffix ∷ le16 (t .start)) ++ le16 (t .end) ++ (0 ∷ 0 ∷ le64 (t .value))
+
+-- an entry of 8 bytes: start u16, end u16, reason u8, three zero bytes
+unfoldable pub encodeDiagnostic : Diagnostic → List ℕ
+unfolding le16
+encodeDiagnostic d = le16 (d .start) ++ le16 (d .end) ++ (d .reason ∷ 0 ∷ 0 ∷ 0 ∷ [])
+
+unfoldable pub joined : {A : Type 0} → (A → List ℕ) → List A → List ℕ
+joined f [] = []
+joined f (a ∷ l) = f a ++ joined f l
+
+-- a table of n bytes: the bytes b, then zero
+unfoldable pub filled : ℕ → List ℕ → List ℕ
+filled n b = take n (b ++ replicate n 0)
+
+-- a table of n bytes: its first entries, each of that size, as many as there is room for, then zero
+unfoldable pub table : {A : Type 0} → ℕ → (A → List ℕ) → ℕ → List A → List ℕ
+unfolding filled joined
+table size f n l = filled n (joined f (take (n / size) l))
+
+abbrev pub tokenTable : ℕ → List Token → List ℕ
+tokenTable n ts = table 16 encodeToken n ts
+
+abbrev pub diagnosticTable : ℕ → List Diagnostic → List ℕ
+diagnosticTable n ds = table 8 encodeDiagnostic n ds
+
+-- ---- what the leaf functions do: entry i stored where there is room for it, and all but the first k entries cleared
+unfoldable pub stored : ℕ → List ℕ → ℕ → List ℕ → List ℕ
+stored size t i b = cond (ltb i (length t / size)) (sets t (i * size) b) t
+
+unfoldable pub cleared : ℕ → List ℕ → List ℕ
+cleared from t = take from t ++ replicate (length t - from) 0
+
+unfoldable pub kept : ℕ → ℕ → List ℕ → List ℕ
+unfolding cleared
+kept size k t = cleared (min k (length t / size) * size) t
