@@ -1,0 +1,205 @@
+-- The kinds' fixed texts and the bytes' classes: each law is one test that antt computes at all kinds or at all bytes. Assumes nothing.
+use mathlib.Core.Path.{_≡_, refl, sym, ap, subst, _∙_}
+use mathlib.Core.Bool.{Bool, true, false, cond, _&&_, _||_, not, Bool·beq, false≢true}
+use mathlib.Core.Logic.{_⊎_, inl, inr, ⊎-elim}
+use mathlib.Core.List.{List, [], _∷_}
+use Prim.Native.Nat.{ℕ, _≤_, _<_}
+use Prim.Native.String.{String}
+use native.Mathlib.Omega.{arith}
+use native.Mathlib.Decide.{decLt}
+use lib.Dec.{T, leb, ltb, eqb, le→leb, leb→le, lt→ltb, eqb→eq, eqb-refl, T-not}
+use lib.ListN.{length, take, drop, getD, List·getD-eq-default}
+use lib.Seq.{take-all}
+use borrow.Author.Tests.{eqb-true, eq-eqb, ne-eqb}
+use Rattle.patterns.specs.Bytes.{bytes, within, same, starts, Set, in-set, white, letter, digit, word, run}
+use Rattle.patterns.specs.Patterns.{All}
+use Rattle.patterns.proofs.Tests.{T-of, of-T, and-l, and-r, and-t, or-cases, implies, modus}
+use Rattle.patterns.proofs.Table.{every, at, below, below-law, byte-law, small, subset, within-is, within-of}
+use Rattle.patterns.proofs.Runs.{run-all}
+use Rattle.patterns.proofs.Words.{same-is, same-self}
+use Rattle.lexer.specs.Kinds.{texts, fixedOf, Identifier}
+use Rattle.lexer.specs.Classes.{kindFrom, classOf, Classes}
+use Rattle.lexer.specs.Scans.{KindIs, kind, no-kind}
+
+-- ---- kinds
+pub kind-law : (f : ℕ → Bool) → T (below 51 f) → (k : ℕ) → k < 51 → T (f k)
+kind-law f t k h = below-law 51 f t k h
+
+pub fixed-kind : (k : ℕ) → 1 ≤ length (fixedOf k) → k < 51
+unfolding fixedOf texts
+fixed-kind k h =
+    elim (decLt k 51) [
+      | yes p ↦ p
+      | no p ↦ absurd (omega (arith, ap (λ (t : String). length (bytes t)) (List·getD-eq-default texts "" {n = k} (omega arith))))
+    ]
+
+-- two kinds have two texts: the kind can be found from its text
+found-back : (k : ℕ) → 1 ≤ length (fixedOf k) → kindFrom 0 texts (fixedOf k) ≡ k
+unfolding fixedOf texts kindFrom same starts
+found-back k h =
+    eqb→eq _ k
+    (modus (leb 1 (length (fixedOf k))) _ (kind-law (λ k. implies (leb 1 (length (fixedOf k))) (eqb (kindFrom 0 texts (fixedOf k)) k)) tt k (fixed-kind k h)) (le→leb 1 _ h))
+
+pub fixed-one : (j k : ℕ) → 1 ≤ length (fixedOf j) → fixedOf j ≡ fixedOf k → j ≡ k
+fixed-one j k h e = sym (found-back j h) ∙ ap (kindFrom 0 texts) e ∙ found-back k (subst (λ (l : List ℕ). 1 ≤ length l) e h)
+
+-- a kind with a fixed text is a keyword or a mark
+pub data Fixed (k : ℕ) : Type 0 where
+  keyword : 2 ≤ k → k ≤ 19 → classOf (getD (fixedOf k) 0 0) ≡ 2 → All (in-set word) (fixedOf k) → Fixed k
+  mark : 21 ≤ k → 21 ≤ classOf (getD (fixedOf k) 0 0) → classOf (getD (fixedOf k) 0 0) ≤ 50 → length (fixedOf k) ≤ 2 → Fixed k
+
+is-keyword : ℕ → Bool
+unfolding fixedOf texts classOf word run
+is-keyword k = within 2 19 k && (eqb (classOf (getD (fixedOf k) 0 0)) 2 && leb (length (fixedOf k)) (run (in-set word) (fixedOf k)))
+
+is-mark : ℕ → Bool
+unfolding fixedOf texts classOf
+is-mark k = leb 21 k && (within 21 50 (classOf (getD (fixedOf k) 0 0)) && leb (length (fixedOf k)) 2)
+
+pub fixed-is : (k : ℕ) → 1 ≤ length (fixedOf k) → Fixed k
+unfolding is-keyword is-mark fixedOf texts classOf word run starts
+fixed-is k h =
+    ⊎-elim
+    (λ p.
+    let a = within-is 2 19 k (and-l (within 2 19 k) _ (T-of p)) in
+    let b = and-r (within 2 19 k) _ (T-of p) in
+    let n = leb→le (length (fixedOf k)) (run (in-set word) (fixedOf k)) (and-r (eqb (classOf (getD (fixedOf k) 0 0)) 2) _ b) in
+    keyword (a .0) (a .1) (eqb→eq _ 2 (and-l (eqb (classOf (getD (fixedOf k) 0 0)) 2) _ b))
+    (subst (All (in-set word)) (take-all (run (in-set word) (fixedOf k)) (fixedOf k) n) (run-all (in-set word) (fixedOf k))))
+    (λ p.
+    let b = and-r (leb 21 k) _ (T-of p) in
+    let c = within-is 21 50 (classOf (getD (fixedOf k) 0 0)) (and-l (within 21 50 (classOf (getD (fixedOf k) 0 0))) _ b) in
+    mark (leb→le 21 k (and-l (leb 21 k) _ (T-of p))) (c .0) (c .1) (leb→le _ 2 (and-r (within 21 50 (classOf (getD (fixedOf k) 0 0))) _ b)))
+    (or-cases (is-keyword k) (is-mark k)
+    (of-T _ (modus (leb 1 (length (fixedOf k))) _ (kind-law (λ k. implies (leb 1 (length (fixedOf k))) (is-keyword k || is-mark k)) tt k (fixed-kind k h)) (le→leb 1 _ h))))
+
+-- ---- which keyword a word is
+unfoldable pub member : ℕ → List ℕ → Bool
+member j [] = false
+member j (k ∷ l) = eqb j k || member j l
+
+-- the word has the text of none of these kinds
+abbrev pub NoneOf : List ℕ → List ℕ → Type 0
+NoneOf w [] = Unit {0}
+NoneOf w (k ∷ l) = (same (fixedOf k) w ≡ false) × NoneOf w l
+
+none-is : (w : List ℕ) (l : List ℕ) (j : ℕ) → NoneOf w l → member j l ≡ true → w ≡ fixedOf j → ⊥
+unfolding member
+none-is w [] j n m e = false≢true m
+none-is w (k ∷ l) j n m e =
+    ⊎-elim
+    (λ q. false≢true (sym (n .0) ∙ subst (λ (v : List ℕ). same (fixedOf k) v ≡ true) (sym (e ∙ ap fixedOf (eqb-true j k q))) (same-self (fixedOf k))))
+    (λ q. none-is w l j (n .1) q e)
+    (or-cases (eqb j k) (member j l) m)
+
+-- the keywords whose length passes a test are among those of the list
+unfoldable pub listed : (ℕ → Bool) → List ℕ → ℕ → Bool
+unfolding fixedOf texts member
+listed f l j = implies (within 2 19 j && f (length (fixedOf j))) (member j l)
+
+pub no-keyword : (w : List ℕ) (f : ℕ → Bool) (l : List ℕ) → T (below 51 (listed f l)) → T (f (length w)) → NoneOf w l → KindIs 2 19 Identifier w Identifier
+unfolding listed
+no-keyword w f l t h n =
+    no-kind refl
+    (λ j a b e. none-is w l j n
+    (of-T _
+    (modus (within 2 19 j && f (length (fixedOf j))) (member j l) (kind-law (listed f l) t j (omega arith))
+    (and-t (within 2 19 j) _ (within-of 2 19 j a b) (subst (λ (v : List ℕ). T (f (length v))) e h))))
+    e)
+
+pub is-kind : (a e none : ℕ) (w : List ℕ) (k : ℕ) → a ≤ k → k ≤ e → same (fixedOf k) w ≡ true → KindIs a e none w k
+is-kind a e none w k h g s = kind h g (same-is (fixedOf k) w s)
+
+-- ---- marks of two bytes: the second byte goes by the first
+unfoldable pub nextFrom : List String → ℕ → ℕ
+nextFrom [] b = 0
+nextFrom (t ∷ l) b = cond (eqb (length (bytes t)) 2 && eqb (getD (bytes t) 0 0) b) (getD (bytes t) 1 0) (nextFrom l b)
+
+-- over the marks' texts
+unfoldable pub next : ℕ → ℕ
+unfolding nextFrom texts
+next b = nextFrom (drop 21 texts) b
+
+pairs : ℕ → Bool
+unfolding fixedOf texts next
+pairs j =
+    implies (leb 21 j && eqb (length (fixedOf j)) 2)
+    (eqb (next (getD (fixedOf j) 0 0)) (getD (fixedOf j) 1 0) && (leb 1 (next (getD (fixedOf j) 0 0)) && not (eqb (getD (fixedOf j) 0 0) 47)))
+
+pub next-is : (j b d : ℕ) → 21 ≤ j → b ∷ d ∷ [] ≡ fixedOf j → (next b ≡ d) × (1 ≤ next b) × (b ≡ 47 → ⊥)
+unfolding pairs fixedOf texts next nextFrom
+next-is j b d h e =
+    let t =
+    subst (λ (l : List ℕ). T (eqb (next (getD l 0 0)) (getD l 1 0) && (leb 1 (next (getD l 0 0)) && not (eqb (getD l 0 0) 47)))) (sym e)
+    (modus (leb 21 j && eqb (length (fixedOf j)) 2) _ (kind-law pairs tt j (fixed-kind j (omega (arith, ap length e))))
+    (and-t (leb 21 j) _ (le→leb 21 j h) (subst (λ (l : List ℕ). T (eqb (length l) 2)) e tt))) in
+    let u = and-r (eqb (next b) d) _ t in
+    (eqb→eq (next b) d (and-l (eqb (next b) d) _ t), leb→le 1 (next b) (and-l (leb 1 (next b)) _ u), (λ q. T-not (eqb b 47) (and-r (leb 1 (next b)) _ u) (subst (λ (x : ℕ). T (eqb x 47)) (sym q) tt)))
+
+pub no-pair : (b d : ℕ) → (next b ≡ d → 1 ≤ next b → ⊥) → KindIs 21 50 0 (b ∷ d ∷ []) 0
+no-pair b d f = no-kind refl (λ j g h e. let r = next-is j b d g e in f (r .0) (r .1))
+
+-- ---- classes
+pub table-rule : (l : List ℕ) → T (every (λ k x. eqb x (classOf k)) 0 l) → length l ≡ 256 → Classes l
+table-rule l t n = record { rule = λ b h. eqb→eq _ _ (at (λ k x. eqb x (classOf k)) l t b (omega arith)) }
+
+classed : (f : Set) (k : ℕ) → T (small f) → T (below 256 (λ b. implies (in-set f b) (eqb (classOf b) k))) → (b : ℕ) → in-set f b ≡ true → classOf b ≡ k
+classed f k s t b h = eqb-true (classOf b) k (subset f (λ b. eqb (classOf b) k) s t b h)
+
+pub white-class : (b : ℕ) → in-set white b ≡ true → classOf b ≡ 1
+unfolding classOf white
+white-class = classed white 1 tt tt
+
+pub letter-class : (b : ℕ) → in-set letter b ≡ true → classOf b ≡ 2
+unfolding classOf letter
+letter-class = classed letter 2 tt tt
+
+pub digit-class : (b : ℕ) → in-set digit b ≡ true → classOf b ≡ 3
+unfolding classOf digit
+digit-class = classed digit 3 tt tt
+
+-- a set is what the class says
+says : (f : Set) (g : ℕ → Bool) → T (below 256 (λ b. Bool·beq (in-set f b) (g (classOf b)))) → (b c : ℕ) → b < 256 → c ≡ classOf b → in-set f b ≡ g c
+says f g t b c h e = go (in-set f b) (g (classOf b)) (byte-law (λ b. Bool·beq (in-set f b) (g (classOf b))) t b h) ∙ ap g (sym e)
+  where
+    go : (x y : Bool) → T (Bool·beq x y) → x ≡ y
+    go true true u = refl
+    go true false u = absurd u
+    go false true u = absurd u
+    go false false u = refl
+
+pub white-is : (b c : ℕ) → b < 256 → c ≡ classOf b → in-set white b ≡ eqb c 1
+unfolding classOf white
+white-is = says white (λ c. eqb c 1) tt
+
+pub letter-is : (b c : ℕ) → b < 256 → c ≡ classOf b → in-set letter b ≡ eqb c 2
+unfolding classOf letter
+letter-is = says letter (λ c. eqb c 2) tt
+
+pub digit-is : (b c : ℕ) → b < 256 → c ≡ classOf b → in-set digit b ≡ eqb c 3
+unfolding classOf digit
+digit-is = says digit (λ c. eqb c 3) tt
+
+pub word-is : (b c : ℕ) → b < 256 → c ≡ classOf b → in-set word b ≡ within 2 3 c
+unfolding classOf word
+word-is = says word (within 2 3) tt
+
+-- the class of a mark is its kind, and 36, the kind of `/`, is of `/` alone
+pub mark-is : (b : ℕ) → b < 256 → 4 ≤ classOf b → classOf b < 0x80 → (21 ≤ classOf b) × (classOf b ≤ 50) × (b ∷ [] ≡ fixedOf (classOf b)) × (classOf b ≡ 36 → b ≡ 47)
+unfolding classOf fixedOf texts same starts
+mark-is b h p q =
+    let t =
+    modus (within 4 0x7F (classOf b)) _
+    (byte-law (λ b. implies (within 4 0x7F (classOf b)) (within 21 50 (classOf b) && (same (fixedOf (classOf b)) (b ∷ []) && implies (eqb (classOf b) 36) (eqb b 47)))) tt b h)
+    (within-of 4 0x7F (classOf b) p (omega arith)) in
+    let r = within-is 21 50 (classOf b) (and-l (within 21 50 (classOf b)) _ t) in
+    let u = and-r (within 21 50 (classOf b)) _ t in (
+      r .0,
+      r .1,
+      same-is _ _ (of-T _ (and-l (same (fixedOf (classOf b)) (b ∷ [])) _ u)),
+      (λ e. eqb→eq b 47 (modus (eqb (classOf b) 36) _ (and-r (same (fixedOf (classOf b)) (b ∷ [])) _ u) (T-of (eq-eqb _ 36 e)))),
+    )
+
+-- what a callee told, and a test of it
+pub told : {x r b : Bool} → r ≡ x → r ≡ b → x ≡ b
+told e f = sym e ∙ f

@@ -1,0 +1,35 @@
+-- Every byte's class: what it can begin, by the patterns of lexer.rs and, from 0x80 on, by the table of RFC 3629, section 3. Assumes nothing.
+use mathlib.Core.Path.{_≡_}
+use mathlib.Core.Bool.{cond}
+use mathlib.Core.List.{List, [], _∷_}
+use Prim.Native.Nat.{ℕ, suc, _<_}
+use Prim.Native.String.{String}
+use lib.Dec.{ltb}
+use lib.ListN.{getD}
+use Rattle.patterns.specs.Bytes.{bytes, within, same, in-set, white, letter, digit}
+use Rattle.lexer.specs.Kinds.{texts}
+
+-- the kind whose fixed text is w, 0 if there is none: the texts from kind k on are l
+unfoldable pub kindFrom : ℕ → List String → List ℕ → ℕ
+unfolding same
+kindFrom k [] w = 0
+kindFrom k (t ∷ l) w = cond (same (bytes t) w) k (kindFrom (suc k) l w)
+
+-- 1 white space, 2 a name, 3 a numeral, the kind of the mark that the byte is by itself, 0 no token; from 0x80 on
+-- 0x80 a following byte of a character, 0x82, 0x83, 0x84 the first byte of one of two, three, four bytes, 0xFF neither
+unfoldable pub classOf : ℕ → ℕ
+unfolding white letter digit kindFrom texts
+classOf b =
+    cond (in-set white b) 1
+    (cond (in-set letter b) 2
+    (cond (in-set digit b) 3
+    (cond (ltb b 0x80) (kindFrom 0 texts (b ∷ []))
+    (cond (ltb b 0xC0) 0x80
+    (cond (within 0xC2 0xDF b) 0x82
+    (cond (within 0xE0 0xEF b) 0x83
+    (cond (within 0xF0 0xF4 b) 0x84
+    0xFF)))))))
+
+-- the table has each byte's class
+pub record Classes (l : List ℕ) : Type 0 where
+  pub rule : (b : ℕ) → b < 256 → getD l b 0 ≡ classOf b

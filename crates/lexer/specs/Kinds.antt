@@ -1,0 +1,28 @@
+-- The kinds of tokens, in `TokenType`'s order from 1, and their fixed texts; 0 stands for what is skipped. Assumes nothing.
+use mathlib.Core.List.{List, [], _∷_}
+use Prim.Native.Nat.{ℕ}
+use Prim.Native.String.{String}
+use lib.ListN.{getD}
+use Rattle.patterns.specs.Bytes.{bytes}
+
+abbrev pub Skipped : ℕ
+Skipped = 0
+
+abbrev pub LiteralNumber : ℕ
+LiteralNumber = 1
+
+abbrev pub Identifier : ℕ
+Identifier = 20
+
+-- the text of each kind from 0 on, "" for a kind that has no fixed one
+unfoldable pub texts : List String
+texts =
+    "" ∷ ""
+    ∷ "as" ∷ "const" ∷ "else" ∷ "false" ∷ "fn" ∷ "if" ∷ "let" ∷ "new" ∷ "return" ∷ "struct" ∷ "true" ∷ "while" ∷ "loop" ∷ "for" ∷ "in" ∷ "break" ∷ "continue" ∷ "use"
+    ∷ ""
+    ∷ "!" ∷ "&&" ∷ "||" ∷ "&" ∷ "|" ∷ "^" ∷ "==" ∷ "!=" ∷ "<=" ∷ ">=" ∷ "<" ∷ ">" ∷ "+" ∷ "-" ∷ "*" ∷ "/" ∷ "%" ∷ "="
+    ∷ "->" ∷ "(" ∷ ")" ∷ "{" ∷ "}" ∷ "[" ∷ "]" ∷ "," ∷ ";" ∷ ":" ∷ "::" ∷ "." ∷ []
+
+unfoldable pub fixedOf : ℕ → List ℕ
+unfolding texts
+fixedOf k = bytes (getD texts k "")

@@ -1,0 +1,44 @@
+-- What the scanners answer. Assumes nothing.
+use mathlib.Core.Path.{_≡_}
+use mathlib.Core.Bool.{Bool, not}
+use mathlib.Core.List.{List, [], _∷_}
+use Prim.Native.Nat.{ℕ, _≤_, _<_}
+use lib.ListN.{length, getD}
+use Rattle.patterns.specs.Bytes.{in-set, run}
+use Rattle.utf8.specs.Utf8.{Utf8, Begins, Rest}
+use Rattle.lexer.specs.Kinds.{fixedOf}
+use Rattle.lexer.specs.Tokens.{Best, Stuck}
+use Rattle.lexer.specs.Lexes as Lexes
+use Rattle.lexer.specs.Lexes.{Step}
+use Rattle.lexer.specs.declared.scan.Found.{Found}
+use Rattle.lexer.specs.declared.scan.Found.the-variants as Found
+use Rattle.lexer.specs.declared.lexing.Item.{Item}
+use Rattle.lexer.specs.declared.lexing.Item.the-variants as Item
+
+-- of the kinds from a to e, the one whose text is w, or `none`
+pub data KindIs (a e none : ℕ) (w : List ℕ) (r : ℕ) : Type 0 where
+  kind : a ≤ r → r ≤ e → w ≡ fixedOf r → KindIs a e none w r
+  no-kind : r ≡ none → ((j : ℕ) → a ≤ j → j ≤ e → w ≡ fixedOf j → ⊥) → KindIs a e none w r
+
+-- how far a comment goes: to the end, to an LF, or to a byte that begins no character
+abbrev pub not-newline : ℕ → Bool
+not-newline b = not (in-set (("\n", "\n") ∷ []) b)
+
+pub data LineIs (s : List ℕ) (n : ℕ) : Type 0 where
+  line : n ≡ run not-newline s → (n < length s → getD s n 0 ≡ 10) → Rest s n → LineIs s n
+  broken : n < length s → (getD s n 0 ≡ 10 → ⊥) → (Utf8 s → ⊥) → LineIs s n
+
+-- the longest match at the start of a text, or a character with which none begins; or the text is not UTF-8
+pub data Scanned (s : List ℕ) : Found → Type 0 where
+  skip : {n : ℕ} → Best s 0 n → Rest s n → Scanned s (Found.Skip n)
+  token : {k n : ℕ} → 2 ≤ k → Best s k n → Rest s n → Scanned s (Found.Token k n)
+  number : {n : ℕ} → Best s 1 n → Rest s n → Scanned s (Found.Number n)
+  strange : {c n : ℕ} → Stuck s → Begins s c n → Scanned s (Found.Strange n)
+  broken : (Utf8 s → ⊥) → Scanned s Found.NotUtf8
+
+-- the same with the numeral's answer
+pub data Stepped (s : List ℕ) : Item → Type 0 where
+  skipped : {n : ℕ} → Step s n Lexes.skipped → Rest s n → Stepped s (Item.Skipped n)
+  token : {n k x v : ℕ} → Step s n (Lexes.token k x v) → Rest s n → Stepped s (Item.Token n k x v)
+  error : {n r : ℕ} → Step s n (Lexes.error r) → Rest s n → Stepped s (Item.Error n r)
+  broken : (Utf8 s → ⊥) → Stepped s Item.NotUtf8

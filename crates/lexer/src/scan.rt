@@ -1,0 +1,275 @@
+// The longest match at the start of a text.
+use super::class::DIGIT;
+use super::class::FOLLOWING;
+use super::class::LETTER;
+use super::class::WHITE;
+use patterns::is_word;
+use tables::token_type;
+use utf8::char_len;
+ghost use mathlib.Core.Path.{_≡_};
+ghost use mathlib.Core.List.{[], _∷_};
+ghost use Prim.Native.Nat.{_<_};
+ghost use lib.ListN.{length};
+ghost use Rattle.patterns.specs.Bytes.{in-set, white, word, run};
+ghost use Rattle.lexer.specs.Classes.{Classes};
+ghost use Rattle.lexer.specs.Kinds.{Identifier};
+ghost use Rattle.lexer.specs.Scans.{KindIs, LineIs, Scanned};
+ghost use Rattle.lexer.specs.Tokens.{Stuck};
+
+// What stands at the start of a text, and its size.
+pub enum Found {
+    Skip(usize),
+    Token { kind: u8, size: usize },
+    Number(usize),
+    Strange(usize),
+    NotUtf8,
+}
+
+// How many bytes from the start are white space.
+fn white_run(t: &[u8], classes: &[u8; 256]) -> usize
+    requires { ⌜ Classes (now classes) ⌝ }
+    ensures { λ r. ⌜ r ≡ run (in-set white) (now (t .entry)) ⌝ }
+{
+    let mut i = 0;
+    while i < t.len() {
+        if classes[t[i] as usize] != WHITE {
+            return i;
+        }
+        i += 1;
+    }
+    i
+}
+
+// How many bytes from the start are letters, digits or `_`: a name's or a numeral's size.
+fn word_run(t: &[u8], classes: &[u8; 256]) -> usize
+    requires { ⌜ Classes (now classes) ⌝ }
+    ensures { λ r. ⌜ r ≡ run (in-set word) (now (t .entry)) ⌝ }
+{
+    let mut i = 0;
+    while i < t.len() {
+        let c = classes[t[i] as usize];
+        if c < LETTER {
+            return i;
+        }
+        if c > DIGIT {
+            return i;
+        }
+        i += 1;
+    }
+    i
+}
+
+// How many bytes stand before the first LF, or before a byte that begins no character.
+fn line_run(t: &[u8]) -> usize
+    ensures { λ r. ⌜ LineIs (now (t .entry)) r ⌝ }
+{
+    let mut i = 0;
+    while i < t.len() {
+        let b = t[i];
+        if b == b'\n' {
+            return i;
+        }
+        if b < 0x80 {
+            i += 1;
+        } else {
+            let n = char_len(&t[i..]);
+            if n == 0 {
+                return i;
+            }
+            i += n;
+        }
+    }
+    i
+}
+
+// The kind of a word: a keyword's, or a name's.
+fn keyword(w: &[u8]) -> u8
+    ensures { λ r. ⌜ KindIs 2 19 Identifier (now (w .entry)) r ⌝ }
+{
+    let n = w.len();
+    if n == 2 {
+        if is_word(w, b"as") {
+            return token_type::AS;
+        }
+        if is_word(w, b"fn") {
+            return token_type::FUNCTION;
+        }
+        if is_word(w, b"if") {
+            return token_type::IF;
+        }
+        if is_word(w, b"in") {
+            return token_type::IN;
+        }
+        return token_type::IDENTIFIER;
+    }
+    if n == 3 {
+        if is_word(w, b"let") {
+            return token_type::LET;
+        }
+        if is_word(w, b"new") {
+            return token_type::NEW;
+        }
+        if is_word(w, b"for") {
+            return token_type::FOR;
+        }
+        if is_word(w, b"use") {
+            return token_type::USE;
+        }
+        return token_type::IDENTIFIER;
+    }
+    if n == 4 {
+        if is_word(w, b"else") {
+            return token_type::ELSE;
+        }
+        if is_word(w, b"true") {
+            return token_type::TRUE;
+        }
+        if is_word(w, b"loop") {
+            return token_type::LOOP;
+        }
+        return token_type::IDENTIFIER;
+    }
+    if n == 5 {
+        if is_word(w, b"const") {
+            return token_type::CONST;
+        }
+        if is_word(w, b"false") {
+            return token_type::FALSE;
+        }
+        if is_word(w, b"while") {
+            return token_type::WHILE;
+        }
+        if is_word(w, b"break") {
+            return token_type::BREAK;
+        }
+        return token_type::IDENTIFIER;
+    }
+    if n == 6 {
+        if is_word(w, b"return") {
+            return token_type::RETURN;
+        }
+        if is_word(w, b"struct") {
+            return token_type::STRUCT;
+        }
+        return token_type::IDENTIFIER;
+    }
+    if n == 8 {
+        if is_word(w, b"continue") {
+            return token_type::CONTINUE;
+        }
+    }
+    token_type::IDENTIFIER
+}
+
+// The mark of two bytes that b and d are, or 0.
+fn pair_of(b: u8, d: u8) -> u8
+    ensures { λ r. ⌜ KindIs 21 50 0 (b ∷ d ∷ []) r ⌝ }
+{
+    match b {
+        b'!' => {
+            if d == b'=' {
+                return token_type::NEQ;
+            }
+        }
+        b'&' => {
+            if d == b'&' {
+                return token_type::AND_AND;
+            }
+        }
+        b'-' => {
+            if d == b'>' {
+                return token_type::ARROW;
+            }
+        }
+        b':' => {
+            if d == b':' {
+                return token_type::COLON_COLON;
+            }
+        }
+        b'<' => {
+            if d == b'=' {
+                return token_type::LESS_EQUAL;
+            }
+        }
+        b'=' => {
+            if d == b'=' {
+                return token_type::EQ_EQ;
+            }
+        }
+        b'>' => {
+            if d == b'=' {
+                return token_type::GREATER_EQUAL;
+            }
+        }
+        b'|' => {
+            if d == b'|' {
+                return token_type::OR_OR;
+            }
+        }
+        _ => {}
+    }
+    0
+}
+
+// A character that begins no token.
+fn strange(t: &[u8]) -> Found
+    requires { ⌜ 0 < length (now t) ⌝ }
+    requires { ⌜ Stuck (now t) ⌝ }
+    ensures { λ r. ⌜ Scanned (now (t .entry)) r ⌝ }
+{
+    let n = char_len(t);
+    if n == 0 {
+        return Found::NotUtf8;
+    }
+    Found::Strange(n)
+}
+
+// By the class of the first byte.
+pub fn scan(t: &[u8], classes: &[u8; 256]) -> Found
+    requires { ⌜ 0 < length (now t) ⌝ }
+    requires { ⌜ Classes (now classes) ⌝ }
+    ensures { λ r. ⌜ Scanned (now (t .entry)) r ⌝ }
+{
+    let b = t[0];
+    let c = classes[b as usize];
+    if c == LETTER {
+        let n = word_run(t, classes);
+        return Found::Token {
+            kind: keyword(&t[..n]),
+            size: n,
+        };
+    }
+    if c == WHITE {
+        return Found::Skip(white_run(t, classes));
+    }
+    if c == DIGIT {
+        return Found::Number(word_run(t, classes));
+    }
+    if c == 0 {
+        return strange(t);
+    }
+    if c >= FOLLOWING {
+        return strange(t);
+    }
+    if t.len() == 1 {
+        return Found::Token { kind: c, size: 1 };
+    }
+    let d = t[1];
+    if c == token_type::DIV {
+        if d != b'/' {
+            return Found::Token { kind: c, size: 1 };
+        }
+        let n = line_run(&t[2..]) + 2;
+        if n < t.len() {
+            if t[n] != b'\n' {
+                return Found::NotUtf8;
+            }
+        }
+        return Found::Skip(n);
+    }
+    let p = pair_of(b, d);
+    if p == 0 {
+        return Found::Token { kind: c, size: 1 };
+    }
+    Found::Token { kind: p, size: 2 }
+}
