@@ -19,7 +19,7 @@ use Rattle.patterns.proofs.Runs.{Passed, passed-none, passed-more, passed-stop,
 use Rattle.utf8.specs.Utf8.{Utf8, Begins, FirstChar, Rest, begins, nothing}
 use Rattle.utf8.proofs.Laws.{begins-some, begins-high, rest-none, rest-char, rest-ascii, rest-more, rest-end, rest-stop, next-ascii}
 use Rattle.lexer.specs.Kinds.{Identifier, texts, fixedOf}
-use Rattle.lexer.specs.Classes.{classOf, Classes}
+use Rattle.lexer.specs.Classes.{classOf, Table}
 use Rattle.lexer.specs.Tokens.{Best, Stuck}
 use Rattle.lexer.specs.Scans.{KindIs, kind, no-kind, not-newline, LineIs, line, broken, Scanned}
 use Rattle.lexer.specs.declared.scan.Found.{Found}
@@ -28,7 +28,7 @@ use Rattle.lexer.proofs.Texts.{white-is, letter-is, digit-is, word-is, 
 use Rattle.lexer.proofs.Leads.{best-white, best-comment, best-numeral, best-name, best-mark, stuck}
 
 -- ---- runs of a class: the table's entry at the byte at i
-module _ {t l : List ℕ} {i : ℕ} (r : Classes l) (h : i < length t) (small : getD t i 0 < 256) where
+module _ {t l : List ℕ} {i : ℕ} (r : Table classOf l) (h : i < length t) (small : getD t i 0 < 256) where
   pub white-more : Passed (in-set white) t i → getD l (getD t i 0) 0 ≡ 1 → Passed (in-set white) t (i + 1)
   white-more p e = passed-more p h (white-is _ _ small (r .rule _ small) ∙ eq-eqb _ 1 e)
 

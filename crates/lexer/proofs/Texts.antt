@@ -18,7 +18,7 @@ use Rattle.patterns.proofs.Table.{every, at, below, below-law, byte-law, small,
 use Rattle.patterns.proofs.Runs.{run-all}
 use Rattle.patterns.proofs.Words.{same-is, same-self}
 use Rattle.lexer.specs.Kinds.{texts, fixedOf, Identifier}
-use Rattle.lexer.specs.Classes.{kindFrom, classOf, Classes}
+use Rattle.lexer.specs.Classes.{kindFrom, nextOf, pairOf, classOf, Table}
 use Rattle.lexer.specs.Scans.{KindIs, kind, no-kind}
 
 -- ---- kinds
@@ -111,37 +111,43 @@ pub is-kind : (a e none : ℕ) (w : List ℕ) (k : ℕ) → a ≤ k → k ≤ e 
 is-kind a e none w k h g s = kind h g (same-is (fixedOf k) w s)
 
 -- ---- marks of two bytes: the second byte goes by the first
-unfoldable pub nextFrom : List String → ℕ → ℕ
-nextFrom [] b = 0
-nextFrom (t ∷ l) b = cond (eqb (length (bytes t)) 2 && eqb (getD (bytes t) 0 0) b) (getD (bytes t) 1 0) (nextFrom l b)
-
--- over the marks' texts
-unfoldable pub next : ℕ → ℕ
-unfolding nextFrom texts
-next b = nextFrom (drop 21 texts) b
-
 pairs : ℕ → Bool
-unfolding fixedOf texts next
+unfolding fixedOf texts nextOf
 pairs j =
     implies (leb 21 j && eqb (length (fixedOf j)) 2)
-    (eqb (next (getD (fixedOf j) 0 0)) (getD (fixedOf j) 1 0) && (leb 1 (next (getD (fixedOf j) 0 0)) && not (eqb (getD (fixedOf j) 0 0) 47)))
+    (eqb (nextOf (getD (fixedOf j) 0 0)) (getD (fixedOf j) 1 0) && (leb 1 (nextOf (getD (fixedOf j) 0 0)) && not (eqb (getD (fixedOf j) 0 0) 47)))
 
-pub next-is : (j b d : ℕ) → 21 ≤ j → b ∷ d ∷ [] ≡ fixedOf j → (next b ≡ d) × (1 ≤ next b) × (b ≡ 47 → ⊥)
-unfolding pairs fixedOf texts next nextFrom
+pub next-is : (j b d : ℕ) → 21 ≤ j → b ∷ d ∷ [] ≡ fixedOf j → (nextOf b ≡ d) × (1 ≤ nextOf b) × (b ≡ 47 → ⊥)
+unfolding pairs fixedOf texts nextOf
 next-is j b d h e =
     let t =
-    subst (λ (l : List ℕ). T (eqb (next (getD l 0 0)) (getD l 1 0) && (leb 1 (next (getD l 0 0)) && not (eqb (getD l 0 0) 47)))) (sym e)
+    subst (λ (l : List ℕ). T (eqb (nextOf (getD l 0 0)) (getD l 1 0) && (leb 1 (nextOf (getD l 0 0)) && not (eqb (getD l 0 0) 47)))) (sym e)
     (modus (leb 21 j && eqb (length (fixedOf j)) 2) _ (kind-law pairs tt j (fixed-kind j (omega (arith, ap length e))))
     (and-t (leb 21 j) _ (le→leb 21 j h) (subst (λ (l : List ℕ). T (eqb (length l) 2)) e tt))) in
-    let u = and-r (eqb (next b) d) _ t in
-    (eqb→eq (next b) d (and-l (eqb (next b) d) _ t), leb→le 1 (next b) (and-l (leb 1 (next b)) _ u), (λ q. T-not (eqb b 47) (and-r (leb 1 (next b)) _ u) (subst (λ (x : ℕ). T (eqb x 47)) (sym q) tt)))
+    let u = and-r (eqb (nextOf b) d) _ t in
+    (eqb→eq (nextOf b) d (and-l (eqb (nextOf b) d) _ t), leb→le 1 (nextOf b) (and-l (leb 1 (nextOf b)) _ u), (λ q. T-not (eqb b 47) (and-r (leb 1 (nextOf b)) _ u) (subst (λ (x : ℕ). T (eqb x 47)) (sym q) tt)))
 
-pub no-pair : (b d : ℕ) → (next b ≡ d → 1 ≤ next b → ⊥) → KindIs 21 50 0 (b ∷ d ∷ []) 0
-no-pair b d f = no-kind refl (λ j g h e. let r = next-is j b d g e in f (r .0) (r .1))
+pub no-pair : {b d n : ℕ} → n ≡ nextOf b → (n ≡ d → ⊥) → KindIs 21 50 0 (b ∷ d ∷ []) 0
+no-pair {b} {d} e f = no-kind refl (λ j g h q. f (e ∙ next-is j b d g q .0))
+
+pub no-next : {b d n : ℕ} → n ≡ nextOf b → n ≡ 0 → KindIs 21 50 0 (b ∷ d ∷ []) 0
+no-next {b} {d} e f = no-kind refl (λ j g h q. omega (arith, next-is j b d g q .1))
+
+pub a-pair : {b d n k : ℕ} → b < 256 → n ≡ nextOf b → n ≡ d → (n ≡ 0 → ⊥) → k ≡ pairOf b → KindIs 21 50 0 (b ∷ d ∷ []) k
+unfolding nextOf pairOf fixedOf texts kindFrom same starts
+a-pair {b} {d} {n} {k} h e f z q =
+    let t =
+    modus (leb 1 (nextOf b)) _
+    (byte-law (λ b. implies (leb 1 (nextOf b)) (within 21 50 (pairOf b) && same (fixedOf (pairOf b)) (b ∷ nextOf b ∷ []))) tt b h)
+    (le→leb 1 (nextOf b) (omega arith)) in
+    let r = within-is 21 50 (pairOf b) (and-l (within 21 50 (pairOf b)) _ t) in
+    let w : b ∷ nextOf b ∷ [] ≡ fixedOf (pairOf b) = same-is _ _ (of-T _ (and-r (within 21 50 (pairOf b)) _ t)) in
+    let g : nextOf b ≡ d = sym e ∙ f in
+    kind (omega (arith, r .0)) (omega (arith, r .1)) (ap (λ (x : ℕ). b ∷ x ∷ []) (sym g) ∙ w ∙ ap fixedOf (sym q))
 
 -- ---- classes
-pub table-rule : (l : List ℕ) → T (every (λ k x. eqb x (classOf k)) 0 l) → length l ≡ 256 → Classes l
-table-rule l t n = record { rule = λ b h. eqb→eq _ _ (at (λ k x. eqb x (classOf k)) l t b (omega arith)) }
+pub table-rule : (f : ℕ → ℕ) (l : List ℕ) → T (every (λ k x. eqb x (f k)) 0 l) → length l ≡ 256 → Table f l
+table-rule f l t n = record { rule = λ b h. eqb→eq _ _ (at (λ k x. eqb x (f k)) l t b (omega arith)) }
 
 classed : (f : Set) (k : ℕ) → T (small f) → T (below 256 (λ b. implies (in-set f b) (eqb (classOf b) k))) → (b : ℕ) → in-set f b ≡ true → classOf b ≡ k
 classed f k s t b h = eqb-true (classOf b) k (subset f (λ b. eqb (classOf b) k) s t b h)

@@ -1,11 +1,11 @@
 -- Every byte's class: what it can begin, by the patterns of lexer.rs and, from 0x80 on, by the table of RFC 3629, section 3. Assumes nothing.
 use mathlib.Core.Path.{_≡_}
-use mathlib.Core.Bool.{cond}
+use mathlib.Core.Bool.{cond, _&&_}
 use mathlib.Core.List.{List, [], _∷_}
 use Prim.Native.Nat.{ℕ, suc, _<_}
 use Prim.Native.String.{String}
-use lib.Dec.{ltb}
-use lib.ListN.{getD}
+use lib.Dec.{ltb, eqb}
+use lib.ListN.{length, drop, getD}
 use Rattle.patterns.specs.Bytes.{bytes, within, same, in-set, white, letter, digit}
 use Rattle.lexer.specs.Kinds.{texts}
 
@@ -30,6 +30,20 @@ classOf b =
     (cond (within 0xF0 0xF4 b) 0x84
     0xFF)))))))
 
--- the table has each byte's class
-pub record Classes (l : List ℕ) : Type 0 where
-  pub rule : (b : ℕ) → b < 256 → getD l b 0 ≡ classOf b
+-- the byte that makes a mark of two bytes of the byte b, 0 if none does: the marks' texts are l
+unfoldable pub nextFrom : List String → ℕ → ℕ
+nextFrom [] b = 0
+nextFrom (t ∷ l) b = cond (eqb (length (bytes t)) 2 && eqb (getD (bytes t) 0 0) b) (getD (bytes t) 1 0) (nextFrom l b)
+
+unfoldable pub nextOf : ℕ → ℕ
+unfolding nextFrom texts
+nextOf b = nextFrom (drop 21 texts) b
+
+-- the kind of that mark
+unfoldable pub pairOf : ℕ → ℕ
+unfolding kindFrom nextOf texts
+pairOf b = kindFrom 0 texts (b ∷ nextOf b ∷ [])
+
+-- the table has what f says of each byte
+pub record Table (f : ℕ → ℕ) (l : List ℕ) : Type 0 where
+  pub rule : (b : ℕ) → b < 256 → getD l b 0 ≡ f b

@@ -1,5 +1,7 @@
 // The tokens and the lexical errors of a text.
 use super::class::classes;
+use super::class::nexts;
+use super::class::pairs;
 use super::scan::Found;
 use super::scan::scan;
 use numeral::NumberLiteral;
@@ -13,7 +15,7 @@ use tables::token_type::LITERAL_NUMBER;
 ghost use mathlib.Core.Path.{_≡_};
 ghost use Prim.Native.Nat.{_<_};
 ghost use lib.ListN.{length};
-ghost use Rattle.lexer.specs.Classes.{Classes};
+ghost use Rattle.lexer.specs.Classes.{classOf, nextOf, pairOf, Table};
 ghost use Rattle.lexer.specs.Scans.{Stepped};
 ghost use Rattle.lexer.specs.Answers.{LexedIs};
 
@@ -45,12 +47,14 @@ pub enum Lexed {
     Done { tokens: usize, diagnostics: usize },
 }
 
-fn step(t: &[u8], classes: &[u8; 256]) -> Item
+fn step(t: &[u8], classes: &[u8; 256], nexts: &[u8; 256], pairs: &[u8; 256]) -> Item
     requires { ⌜ 0 < length (now t) ⌝ }
-    requires { ⌜ Classes (now classes) ⌝ }
+    requires { ⌜ Table classOf (now classes) ⌝ }
+    requires { ⌜ Table nextOf (now nexts) ⌝ }
+    requires { ⌜ Table pairOf (now pairs) ⌝ }
     ensures { λ r. ⌜ Stepped (now (t .entry)) r ⌝ }
 {
-    let f = scan(t, classes);
+    let f = scan(t, classes, nexts, pairs);
     match f {
         Found::Skip(n) => Item::Skipped(n),
         Found::Token { kind, size } => Item::Token {
@@ -96,11 +100,13 @@ pub fn lex(text: &[u8], tokens: &mut [u8], diagnostics: &mut [u8]) -> Lexed
         return Lexed::Long;
     }
     let classes = classes();
+    let nexts = nexts();
+    let pairs = pairs();
     let mut at = 0;
     let mut token_count: usize = 0;
     let mut error_count: usize = 0;
     while at < text.len() {
-        let item = step(&text[at..], &classes);
+        let item = step(&text[at..], &classes, &nexts, &pairs);
         match item {
             Item::Skipped(size) => {
                 at += size;

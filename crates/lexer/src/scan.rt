@@ -11,7 +11,7 @@ ghost use mathlib.Core.List.{[], _∷_};
 ghost use Prim.Native.Nat.{_<_};
 ghost use lib.ListN.{length};
 ghost use Rattle.patterns.specs.Bytes.{in-set, white, word, run};
-ghost use Rattle.lexer.specs.Classes.{Classes};
+ghost use Rattle.lexer.specs.Classes.{classOf, nextOf, pairOf, Table};
 ghost use Rattle.lexer.specs.Kinds.{Identifier};
 ghost use Rattle.lexer.specs.Scans.{KindIs, LineIs, Scanned};
 ghost use Rattle.lexer.specs.Tokens.{Stuck};
@@ -27,7 +27,7 @@ pub enum Found {
 
 // How many bytes from the start are white space.
 fn white_run(t: &[u8], classes: &[u8; 256]) -> usize
-    requires { ⌜ Classes (now classes) ⌝ }
+    requires { ⌜ Table classOf (now classes) ⌝ }
     ensures { λ r. ⌜ r ≡ run (in-set white) (now (t .entry)) ⌝ }
 {
     let mut i = 0;
@@ -42,7 +42,7 @@ fn white_run(t: &[u8], classes: &[u8; 256]) -> usize
 
 // How many bytes from the start are letters, digits or `_`: a name's or a numeral's size.
 fn word_run(t: &[u8], classes: &[u8; 256]) -> usize
-    requires { ⌜ Classes (now classes) ⌝ }
+    requires { ⌜ Table classOf (now classes) ⌝ }
     ensures { λ r. ⌜ r ≡ run (in-set word) (now (t .entry)) ⌝ }
 {
     let mut i = 0;
@@ -162,53 +162,19 @@ fn keyword(w: &[u8]) -> u8
 }
 
 // The mark of two bytes that b and d are, or 0.
-fn pair_of(b: u8, d: u8) -> u8
+fn pair_of(b: u8, d: u8, nexts: &[u8; 256], pairs: &[u8; 256]) -> u8
+    requires { ⌜ Table nextOf (now nexts) ⌝ }
+    requires { ⌜ Table pairOf (now pairs) ⌝ }
     ensures { λ r. ⌜ KindIs 21 50 0 (b ∷ d ∷ []) r ⌝ }
 {
-    match b {
-        b'!' => {
-            if d == b'=' {
-                return token_type::NEQ;
-            }
-        }
-        b'&' => {
-            if d == b'&' {
-                return token_type::AND_AND;
-            }
-        }
-        b'-' => {
-            if d == b'>' {
-                return token_type::ARROW;
-            }
-        }
-        b':' => {
-            if d == b':' {
-                return token_type::COLON_COLON;
-            }
-        }
-        b'<' => {
-            if d == b'=' {
-                return token_type::LESS_EQUAL;
-            }
-        }
-        b'=' => {
-            if d == b'=' {
-                return token_type::EQ_EQ;
-            }
-        }
-        b'>' => {
-            if d == b'=' {
-                return token_type::GREATER_EQUAL;
-            }
-        }
-        b'|' => {
-            if d == b'|' {
-                return token_type::OR_OR;
-            }
-        }
-        _ => {}
+    let n = nexts[b as usize];
+    if n != d {
+        return 0;
     }
-    0
+    if n == 0 {
+        return 0;
+    }
+    pairs[b as usize]
 }
 
 // A character that begins no token.
@@ -225,9 +191,11 @@ fn strange(t: &[u8]) -> Found
 }
 
 // By the class of the first byte.
-pub fn scan(t: &[u8], classes: &[u8; 256]) -> Found
+pub fn scan(t: &[u8], classes: &[u8; 256], nexts: &[u8; 256], pairs: &[u8; 256]) -> Found
     requires { ⌜ 0 < length (now t) ⌝ }
-    requires { ⌜ Classes (now classes) ⌝ }
+    requires { ⌜ Table classOf (now classes) ⌝ }
+    requires { ⌜ Table nextOf (now nexts) ⌝ }
+    requires { ⌜ Table pairOf (now pairs) ⌝ }
     ensures { λ r. ⌜ Scanned (now (t .entry)) r ⌝ }
 {
     let b = t[0];
@@ -267,7 +235,7 @@ pub fn scan(t: &[u8], classes: &[u8; 256]) -> Found
         }
         return Found::Skip(n);
     }
-    let p = pair_of(b, d);
+    let p = pair_of(b, d, nexts, pairs);
     if p == 0 {
         return Found::Token { kind: c, size: 1 };
     }

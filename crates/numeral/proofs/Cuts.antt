@@ -10,7 +10,7 @@ use lib.ListN.{length, take, drop}
 use borrow.Author.Tests.{eq-eqb, ne-eqb}
 use Rattle.patterns.specs.Bytes.{bytes, run, starts}
 use Rattle.patterns.proofs.Runs.{rest-is}
-use Rattle.numeral.specs.Numeral.{digitIn, lastBelow, lastOf, cutAt, cutOf}
+use Rattle.numeral.specs.Numeral.{digitIn, lastBelow, lastOf, cutAt, cutBy, cutOf}
 
 -- ---- the loop of `rfind`: the word does not stand at i or after it
 pub record Sought (w s : List ℕ) (i : ℕ) : Type 0 where
@@ -41,11 +41,11 @@ module _ {w s : List ℕ} where
 module _ (base : ℕ) (s : List ℕ) (felt u32 a b cut : ℕ) (p : felt ≡ lastOf (bytes "felt") s) (q : u32 ≡ lastOf (bytes "u32") s)
     (x : a ≡ cutAt felt 4 (length s)) (y : b ≡ cutAt u32 3 (length s)) (z : cut ≡ min a b) where
   pub cut-felt : felt < length s → cut ≡ cutOf base s
-  unfolding cutOf
+  unfolding cutOf cutBy
   cut-felt h = rw (z, x, y, ← p, ← q, ne-eqb felt (length s) (λ e. omega arith))
 
   pub cut-u32 : length s ≤ felt → felt ≤ length s → u32 < length s → cut ≡ cutOf base s
-  unfolding cutOf
+  unfolding cutOf cutBy
   cut-u32 h k l = rw (z, x, y, ← p, ← q, eq-eqb felt (length s) (omega arith), ne-eqb u32 (length s) (λ e. omega arith))
 
 pub cut-none : (base : ℕ) (s : List ℕ) (felt u32 k : ℕ) → felt ≡ lastOf (bytes "felt") s → u32 ≡ lastOf (bytes "u32") s → k ≡ run (digitIn base) s

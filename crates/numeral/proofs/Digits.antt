@@ -16,7 +16,7 @@ use Rattle.patterns.proofs.Tests.{implies, modus}
 use Rattle.patterns.proofs.Table.{below, below-law}
 use Rattle.numeral.specs.declared.NumberLiteral.{NumberLiteral}
 use Rattle.numeral.specs.declared.NumberLiteral.the-variants.{Number, Overflow, InvalidFormat}
-use Rattle.numeral.specs.Numeral.{digitOf, digitIn, reading}
+use Rattle.numeral.specs.Numeral.{most, digitOf, digitIn, reading}
 
 -- two functions agree from lo up to hi, by one computed test
 pub agree : (f g : ℕ → ℕ) (lo hi : ℕ) → T (below hi (λ b. implies (leb lo b) (eqb (f b) (g b)))) → (b : ℕ) → lo ≤ b → b < hi → f b ≡ g b
@@ -33,18 +33,18 @@ unfolding digitIn
 no-digit base b d e h = rw (← e, le-ltb d base h)
 
 -- the next digit takes a value past 64 bits: none below 2 ^ 60, and from there on by a division
-pub small-fits : (v base d : ℕ) → base ≤ 16 → d < base → v < 2 ^ 60 → false ≡ ltb 18446744073709551615 (v * base + d)
-small-fits v base d p q h = sym (le-ltb 18446744073709551615 (v * base + d) (omega (arith, mul-le-mul-left v p)))
+pub small-fits : (v base d : ℕ) → base ≤ 16 → d < base → v < 2 ^ 60 → false ≡ ltb most (v * base + d)
+small-fits v base d p q h = sym (le-ltb most (v * base + d) (omega (arith, mul-le-mul-left v p)))
 
-pub over-is : (v base d : ℕ) → base ≤ 16 → d < base → ltb ((18446744073709551615 - d) / base) v ≡ ltb 18446744073709551615 (v * base + d)
-over-is v base d p q = go (ltb ((18446744073709551615 - d) / base) v) refl
+pub over-is : (v base d : ℕ) → base ≤ 16 → d < base → ltb ((most - d) / base) v ≡ ltb most (v * base + d)
+over-is v base d p q = go (ltb ((most - d) / base) v) refl
   where
-    go : (r : Bool) → ltb ((18446744073709551615 - d) / base) v ≡ r → r ≡ ltb 18446744073709551615 (v * base + d)
-    go true e = sym (lt-ltb 18446744073709551615 (v * base + d) (omega (arith, div-lt-iff-lt-mul {k = base} (omega arith) .0 (ltb-true _ _ e))))
-    go false e = sym (le-ltb 18446744073709551615 (v * base + d) (omega (arith, le-div-iff-mul-le {k = base} (omega arith) .0 (ltb-false _ _ e))))
+    go : (r : Bool) → ltb ((most - d) / base) v ≡ r → r ≡ ltb most (v * base + d)
+    go true e = sym (lt-ltb most (v * base + d) (omega (arith, div-lt-iff-lt-mul {k = base} (omega arith) .0 (ltb-true _ _ e))))
+    go false e = sym (le-ltb most (v * base + d) (omega (arith, le-div-iff-mul-le {k = base} (omega arith) .0 (ltb-false _ _ e))))
 
-module _ (v base d : ℕ) (r : Bool) (e : r ≡ ltb 18446744073709551615 (v * base + d)) (q : r ≡ false) where
-  pub next-most : v * base + d ≤ 18446744073709551615
+module _ (v base d : ℕ) (r : Bool) (e : r ≡ ltb most (v * base + d)) (q : r ≡ false) where
+  pub next-most : v * base + d ≤ most
   next-most = ltb-false _ _ (sym e ∙ q)
 
   pub next-fits : Fits w64 (v * base + d)
@@ -56,14 +56,14 @@ module _ (v base d : ℕ) (r : Bool) (e : r ≡ ltb 18446744073709551615 (v * ba
 -- ---- the loop of `from_str_radix`: the first i bytes give the value v
 pub record Read (base x : ℕ) (s : List ℕ) (v i : ℕ) : Type 0 where
   pub within : i ≤ length s
-  pub fits : v ≤ 18446744073709551615
+  pub fits : v ≤ most
   pub so-far : reading base x 0 s ≡ reading base x v (drop i s)
 
 module _ {base x : ℕ} {s : List ℕ} where
   pub read-none : Read base x s 0 0
   read-none = record { within = zero-le; fits = zero-le; so-far = refl }
 
-  pub read-more : {v i d : ℕ} {r : Bool} → Read base x s v i → i < length s → d ≡ digitOf (getD s i 0) → d < base → r ≡ ltb 18446744073709551615 (v * base + d) → r ≡ false → Read base x s (v * base + d) (i + 1)
+  pub read-more : {v i d : ℕ} {r : Bool} → Read base x s v i → i < length s → d ≡ digitOf (getD s i 0) → d < base → r ≡ ltb most (v * base + d) → r ≡ false → Read base x s (v * base + d) (i + 1)
   unfolding reading
   read-more {v} {i} {d} {r} p h e k o q =
       record {
@@ -72,7 +72,7 @@ module _ {base x : ℕ} {s : List ℕ} where
         so-far = p .so-far ∙ rw (add-one, drop-cons s i 0 h, is-digit base _ d e k, ← e, ← o, q);
       }
 
-  pub read-over : {v i d : ℕ} {r : Bool} → Read base x s v i → i < length s → d ≡ digitOf (getD s i 0) → d < base → r ≡ ltb 18446744073709551615 (v * base + d) → r ≡ true → Overflow ≡ reading base x 0 s
+  pub read-over : {v i d : ℕ} {r : Bool} → Read base x s v i → i < length s → d ≡ digitOf (getD s i 0) → d < base → r ≡ ltb most (v * base + d) → r ≡ true → Overflow ≡ reading base x 0 s
   unfolding reading
   read-over {v} {i} {d} {r} p h e k o q = sym (p .so-far ∙ rw (drop-cons s i 0 h, is-digit base _ d e k, ← e, ← o, q))
 

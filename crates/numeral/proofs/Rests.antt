@@ -1,5 +1,5 @@
 -- What the rest after the base's prefix says, and the whole spelling. Assumes nothing.
-use mathlib.Core.Path.{_≡_, refl, sym, ap, subst, _∙_}
+use mathlib.Core.Path.{_≡_, refl, sym, ap, _∙_}
 use mathlib.Core.Bool.{Bool, true, false, cond}
 use mathlib.Core.Logic.{_⊎_, inl, inr}
 use mathlib.Core.List.{List, [], _∷_}
@@ -10,16 +10,16 @@ use native.Mathlib.Omega.{arith}
 use native.Mathlib.Decide.{decLe}
 use lib.Dec.{leb, ltb, eqb, lit<, lit≤, leb→le}
 use lib.ListN.{length, take, drop, getD, length-drop, drop-of-length-le, List·getD-eq-default}
-use lib.Seq.{take-all, take-length, getD-drop}
+use lib.Seq.{take-all, getD-drop}
 use borrow.Author.Tests.{ltb-true, ne-eqb}
 use Rattle.patterns.specs.Bytes.{bytes, within, in-set, either, run, starts}
 use Rattle.patterns.specs.Patterns.{All}
 use Rattle.patterns.proofs.Tests.{and-no}
-use Rattle.patterns.proofs.Runs.{rest-is, run-within, run-longest}
+use Rattle.patterns.proofs.Runs.{rest-is}
 use Rattle.patterns.proofs.Words.{starts-long, starts-byte}
 use Rattle.numeral.specs.declared.NumberLiteral.{NumberLiteral}
 use Rattle.numeral.specs.declared.NumberLiteral.the-variants.{Number, Overflow, InvalidFormat}
-use Rattle.numeral.specs.Numeral.{baseOf, digitOf, digitIn, lastBelow, lastOf, cutOf, suffixKind, reading, readTo, restOf, numeralOf}
+use Rattle.numeral.specs.Numeral.{most, baseOf, digitOf, digitIn, lastBelow, lastOf, cutOf, suffixKind, reading, readTo, restOf, numeralOf}
 use Rattle.numeral.proofs.Digits.{is-digit, no-digit}
 use Rattle.numeral.proofs.Cuts.{cut-none}
 
@@ -50,7 +50,7 @@ module _ (base : ℕ) (s : List ℕ) (k : ℕ) (e : k ≡ cutOf base s) where
 digits-all : (base x v : ℕ) (s : List ℕ) (a b : ℕ) → reading base x v s ≡ Number a b → All (digitIn base) s
 unfolding reading
 digits-all base x v [] a b e = tt
-digits-all base x v (c ∷ s) a b e = go (digitIn base c) refl (ltb 18446744073709551615 (v * base + digitOf c)) e (digits-all base x (v * base + digitOf c) s a b)
+digits-all base x v (c ∷ s) a b e = go (digitIn base c) refl (ltb most (v * base + digitOf c)) e (digits-all base x (v * base + digitOf c) s a b)
   where
     go : (t : Bool) → digitIn base c ≡ t → (o : Bool) → cond t (cond o Overflow (reading base x (v * base + digitOf c) s)) InvalidFormat ≡ Number a b
         → (reading base x (v * base + digitOf c) s ≡ Number a b → All (digitIn base) s) → All (digitIn base) (c ∷ s)
@@ -62,6 +62,11 @@ all-at : (f : ℕ → Bool) (s : List ℕ) (i : ℕ) → All f s → i < length 
 all-at f [] i a h = absurd (omega arith)
 all-at f (b ∷ s) zero a h = a .0
 all-at f (b ∷ s) (suc i) a h = all-at f s i (a .1) (omega arith)
+
+pub run-whole : (f : ℕ → Bool) (s : List ℕ) → All f s → run f s ≡ length s
+unfolding run
+run-whole f [] a = refl
+run-whole f (b ∷ s) a = rw (a .0, run-whole f s (a .1))
 
 no-word : (base : ℕ) (w s : List ℕ) (j : ℕ) → base ≤ 16 → All (digitIn base) s → j < length w → 16 ≤ digitOf (getD w j 0) → (k : ℕ) → length s ≡ lastBelow w s k
 unfolding lastBelow digitIn
@@ -79,8 +84,7 @@ pub rest-whole : (base : ℕ) (s : List ℕ) (r : NumberLiteral) (v x : ℕ) →
 unfolding lastOf digitOf
 rest-whole base s r v x b h e n =
     let a = digits-all base 0 0 s v x (sym e ∙ n) in
-    let l = run-longest (digitIn base) s (length s) (le-refl _) (subst (All (digitIn base)) (sym (take-length s)) a) in
-    let c = cut-none base s (length s) (length s) (length s) (no-word base (bytes "felt") s 2 b a (lit< tt) (lit≤ tt) (length s)) (no-word base (bytes "u32") s 0 b a (lit< tt) (lit≤ tt) (length s)) (omega (arith, l, run-within (digitIn base) s)) (le-refl _) (le-refl _) (le-refl _) (le-refl _) in
+    let c = cut-none base s (length s) (length s) (length s) (no-word base (bytes "felt") s 2 b a (lit< tt) (lit≤ tt) (length s)) (no-word base (bytes "u32") s 0 b a (lit< tt) (lit≤ tt) (length s)) (sym (run-whole (digitIn base) s a)) (le-refl _) (le-refl _) (le-refl _) (le-refl _) in
     rest-end base s (length s) c r h (le-refl _) e
 
 -- ---- the base

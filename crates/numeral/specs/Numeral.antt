@@ -9,6 +9,10 @@ use Rattle.patterns.specs.Bytes.{bytes, within, in-set, either, run, starts, sa
 use Rattle.numeral.specs.declared.NumberLiteral.{NumberLiteral}
 use Rattle.numeral.specs.declared.NumberLiteral.the-variants.{Number, Overflow, InvalidFormat}
 
+-- the largest value: above it is an overflow
+abbrev pub most : ℕ
+most = 18446744073709551615
+
 -- a leading 0x, 0o or 0b (either case) sets the base, else base 10
 unfoldable pub baseOf : List ℕ → ℕ
 baseOf s =
@@ -28,7 +32,7 @@ unfoldable pub digitIn : ℕ → ℕ → Bool
 unfolding digitOf
 digitIn base b = ltb (digitOf b) base
 
--- the last occurrence of w in s, of those at a place below k; the end of s if there is none
+-- the last occurrence of w in s at a place below k; the end of s if there is none
 unfoldable pub lastBelow : List ℕ → List ℕ → ℕ → ℕ
 unfolding starts
 lastBelow w s zero = length s
@@ -39,17 +43,22 @@ unfoldable pub lastOf : List ℕ → List ℕ → ℕ
 unfolding lastBelow
 lastOf w s = lastBelow w s (length s)
 
--- if that is past the first byte and ends the rest, it is a cut; else the cut is the rest's end: a word of m bytes at k, in n bytes
+-- if that is past the first byte and ends the rest, it is a cut; else the cut is the rest's end: for a word of m bytes, last at k, in n bytes
 unfoldable pub cutAt : ℕ → ℕ → ℕ → ℕ
 cutAt k m n = cond (ltb 0 k && eqb (n - k) m) k n
 
+-- the cut that a word makes
+unfoldable pub cutBy : List ℕ → List ℕ → ℕ
+unfolding lastOf cutAt
+cutBy w s = cutAt (lastOf w s) (length w) (length s)
+
 -- the smaller cut counts; if neither word occurs, the cut is before the first non-digit of the base, or the end
 unfoldable pub cutOf : ℕ → List ℕ → ℕ
-unfolding lastOf cutAt run digitIn
+unfolding lastOf cutBy run digitIn
 cutOf base s =
-    let felt = lastOf (bytes "felt") s in
-    let u32 = lastOf (bytes "u32") s in
-    cond (eqb felt (length s) && eqb u32 (length s)) (run (digitIn base) s) (min (cutAt felt 4 (length s)) (cutAt u32 3 (length s)))
+    cond (eqb (lastOf (bytes "felt") s) (length s) && eqb (lastOf (bytes "u32") s) (length s))
+    (run (digitIn base) s)
+    (min (cutBy (bytes "felt") s) (cutBy (bytes "u32") s))
 
 -- suffix: 0 none, 1 felt, 2 u32, 3 other
 unfoldable pub suffixKind : List ℕ → ℕ
@@ -62,7 +71,7 @@ unfolding digitIn digitOf
 reading base x v [] = Number v x
 reading base x v (b ∷ s) =
     cond (digitIn base b)
-    (cond (ltb 18446744073709551615 (v * base + digitOf b)) Overflow (reading base x (v * base + digitOf b) s))
+    (cond (ltb most (v * base + digitOf b)) Overflow (reading base x (v * base + digitOf b) s))
     InvalidFormat
 
 -- nothing before the cut k: format error; a suffix that begins with a digit: format error; then the digits

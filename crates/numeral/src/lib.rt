@@ -1,12 +1,21 @@
 // The value and the suffix of a numeral's spelling, after lexer.rs.
+mod outcome;
+
+pub use outcome::Answer;
+use outcome::outcome_of;
+use outcome::reason_of;
+use outcome::suffix_of;
+use outcome::value_of;
 use patterns::is_word;
 use patterns::starts_with;
 ghost use mathlib.Core.Path.{_≡_};
 ghost use Prim.Native.Nat.{_+_, _*_, _≤_, _<_, min};
 ghost use lib.Dec.{ltb};
 ghost use lib.ListN.{length};
-ghost use Rattle.patterns.specs.Bytes.{run};
-ghost use Rattle.numeral.specs.Numeral.{baseOf, digitOf, digitIn, lastOf, cutAt, cutOf, suffixKind, reading, restOf, numeralOf};
+ghost use Rattle.patterns.specs.Bytes.{in-set, word, run};
+ghost use Rattle.numeral.specs.Entry.{AnswerIs, Answered};
+ghost use Rattle.numeral.specs.Steps.{spelled};
+ghost use Rattle.numeral.specs.Numeral.{most, baseOf, digitOf, digitIn, lastOf, cutAt, cutOf, suffixKind, reading, restOf, numeralOf};
 
 pub enum NumberLiteral {
     Number { value: u64, suffix: u8 },
@@ -31,7 +40,7 @@ fn digit_of(b: u8) -> u8
 // The next digit takes the value past 64 bits; below 2^60 none does.
 fn overflows(v: u64, base: u64, d: u64) -> bool
     requires { ⌜ (base ≤ 16) × (d < base) ⌝ }
-    ensures { λ r. ⌜ r ≡ ltb 18446744073709551615 (v * base + d) ⌝ }
+    ensures { λ r. ⌜ r ≡ ltb most (v * base + d) ⌝ }
 {
     if v < 0x1000_0000_0000_0000 {
         return false;
@@ -105,6 +114,7 @@ fn cut_at(k: usize, m: usize, n: usize) -> usize
     n
 }
 
+// The smaller cut counts.
 fn smaller(a: usize, b: usize) -> usize
     ensures { λ r. ⌜ r ≡ min a b ⌝ }
 {
@@ -121,16 +131,17 @@ fn digit_end(s: &[u8], base: u64) -> usize
     let n = s.len();
     let felt = rfind(s, b"felt");
     let word = rfind(s, b"u32");
-    let end = smaller(cut_at(felt, 4, n), cut_at(word, 3, n));
+    let cut = smaller(cut_at(felt, 4, n), cut_at(word, 3, n));
     if felt < n {
-        return end;
+        return cut;
     }
     if word < n {
-        return end;
+        return cut;
     }
     digit_run(s, base)
 }
 
+// 0 none, 1 felt, 2 u32, 3 other.
 fn suffix_kind(s: &[u8]) -> u8
     ensures { λ r. ⌜ r ≡ suffixKind (now (s .entry)) ⌝ }
 {
@@ -161,18 +172,18 @@ fn parse_remaining(remaining: &[u8], base: u64) -> NumberLiteral
     } = whole {
         return whole;
     }
-    let k = digit_end(remaining, base);
-    if k == 0 {
+    let end = digit_end(remaining, base);
+    if end == 0 {
         return NumberLiteral::InvalidFormat;
     }
-    if k >= remaining.len() {
+    if end >= remaining.len() {
         return whole;
     }
-    if digit_of(remaining[k]) < 10 {
+    if digit_of(remaining[end]) < 10 {
         return NumberLiteral::InvalidFormat;
     }
-    let suffix = suffix_kind(&remaining[k..]);
-    from_str_radix(&remaining[..k], base, suffix)
+    let suffix = suffix_kind(&remaining[end..]);
+    from_str_radix(&remaining[..end], base, suffix)
 }
 
 // The base that a leading 0x, 0o or 0b sets.
@@ -202,4 +213,73 @@ pub fn parse_number_literal(slice: &[u8]) -> NumberLiteral
         return parse_remaining(slice, base);
     }
     parse_remaining(&slice[2..], base)
+}
+
+// A letter, a digit or `_`.
+fn word_byte(b: u8) -> bool
+    ensures { λ r. ⌜ r ≡ in-set word b ⌝ }
+{
+    if b == b'_' {
+        return true;
+    }
+    digit_of(b) < 36
+}
+
+// A digit first, then letters, digits and `_`.
+fn is_spelling(s: &[u8]) -> bool
+    ensures { λ r. ⌜ r ≡ spelled (now (s .entry)) ⌝ }
+{
+    if s.len() == 0 {
+        return false;
+    }
+    if s[0] < b'0' {
+        return false;
+    }
+    if s[0] > b'9' {
+        return false;
+    }
+    let mut i = 0;
+    while i < s.len() {
+        if word_byte(s[i]) {
+            i += 1;
+        } else {
+            return false;
+        }
+    }
+    true
+}
+
+// The answer of the numeral entry.
+pub fn answer(spelling: &[u8]) -> Answer
+    ensures { λ r. ⌜ AnswerIs (now (spelling .entry)) r ⌝ }
+{
+    if spelling.len() > 65535 {
+        return Answer::Long;
+    }
+    if !is_spelling(spelling) {
+        return Answer::Spelling;
+    }
+    let literal = parse_number_literal(spelling);
+    match literal {
+        NumberLiteral::Number { value, suffix } => Answer::Number { value, suffix },
+        NumberLiteral::Overflow => Answer::Lexical { reason: 2 },
+        NumberLiteral::InvalidFormat => Answer::Lexical { reason: 3 },
+    }
+}
+
+// The numeral entry, for C.
+#[no_mangle]
+pub extern "C" fn cairo_m_numeral(
+    spelling: &[u8],
+    value: &mut u64,
+    suffix: &mut u8,
+    reason: &mut u8,
+) -> u32
+    ensures { λ r. ⌜ Answered (now (spelling .entry)) r (now (value .exit)) (now (suffix .exit)) (now (reason .exit)) ⌝ }
+{
+    let a = answer(spelling);
+    *value = value_of(a);
+    *suffix = suffix_of(a);
+    *reason = reason_of(a);
+    outcome_of(a)
 }

@@ -6,11 +6,11 @@ use mathlib.Core.List.{List, [], _∷_}
 use Prim.Native.Nat.{ℕ, _+_, _*_, _^_, _≤_, _<_}
 use lib.ListN.{length, take, drop}
 
--- Section 3: "characters from the U+0000..U+10FFFF range" are encoded, and "the definition of UTF-8 prohibits encoding character numbers between U+D800 and U+DFFF"
+-- section 3: what is encoded goes from U+0000 to U+10FFFF, without the surrogates U+D800 to U+DFFF
 abbrev pub Scalar : ℕ → Type 0
 Scalar c = (c < 0xD800) ⊎ ((0xDFFF < c) × (c ≤ 0x10FFFF))
 
--- Section 3's table, a constructor for each row: the octets s encode the character number c, and x, y, z and w are the groups of bits that the row marks x
+-- section 3's table, a constructor for each row: the octets s encode the character number c, and x, y, z and w are the groups of bits that the row marks x
 pub data Encodes (c : ℕ) (s : List ℕ) : Type 0 where
   one : c ≤ 0x7F → s ≡ c ∷ [] → Encodes c s
   two : (x y : ℕ) → x < 2 ^ 5 → y < 2 ^ 6 → c ≡ x * 2 ^ 6 + y → 0x80 ≤ c → c ≤ 0x7FF → s ≡ (0b1100_0000 + x) ∷ (0b1000_0000 + y) ∷ [] → Encodes c s
@@ -19,13 +19,13 @@ pub data Encodes (c : ℕ) (s : List ℕ) : Type 0 where
   four : (x y z w : ℕ) → x < 2 ^ 3 → y < 2 ^ 6 → z < 2 ^ 6 → w < 2 ^ 6 → c ≡ x * 2 ^ 18 + y * 2 ^ 12 + z * 2 ^ 6 + w → 0x10000 ≤ c → c ≤ 0x10FFFF
       → s ≡ (0b1111_0000 + x) ∷ (0b1000_0000 + y) ∷ (0b1000_0000 + z) ∷ (0b1000_0000 + w) ∷ [] → Encodes c s
 
--- Section 3: characters "are encoded using sequences of 1 to 4 octets"; s begins with such a sequence, n octets that encode c
+-- section 3: a character is one to four octets; the first n octets of s encode c
 pub record Begins (s : List ℕ) (c n : ℕ) : Type 0 where
   pub scalar : Scalar c
   pub within : n ≤ length s
   pub encodes : Encodes c (take n s)
 
--- Section 4: "A UTF-8 string is a sequence of octets representing a sequence of UCS characters"
+-- section 4: a UTF-8 string is a run of such encodings
 pub data Utf8 : List ℕ → Type 0 where
   done : Utf8 []
   char : {s : List ℕ} (c n : ℕ) → Begins s c n → Utf8 (drop n s) → Utf8 s

@@ -6,7 +6,7 @@ use Rattle.lexer.proofs.class.classes.Tie as tie
 
 returns : tie.Need-returns
 unfolding classOf
-returns c = table-rule _ tt refl
+returns c = table-rule classOf _ tt refl
 
 pub classes-spec : {M : Type 1} → statement M
 classes-spec = tie.close (tie.spec returns)

@@ -13,7 +13,7 @@ begun : (c : tie.After-c) → Begun (c .before .before .before .args .t .now) (g
 begun c =
     let k = c .before .before in
     let small = k .shared-slice-known .given 0 .fits in
-    record { some = k .before .pre .0; small = small; class-is = k .before .pre .1 .rule _ small }
+    record { some = k .before .pre .0; small = small; class-is = k .before .pre .1 .0 .rule _ small }
 
 marked : (c : tie.Else5) → Marked (c .before .before .before .before .before .before .before .before .args .t .now) (getD (c .before .before .before .before .before .before .before .before .args .classes .now) (getD (c .before .before .before .before .before .before .before .before .args .t .now) 0 0) 0)
 marked c = record { begun = begun (c .before .before .before .before .before); low = omega arith; high = search needs }

@@ -1,0 +1,166 @@
+// A case of the lexing entry.
+ghost use Prim.Native.Nat.{_+_, _*_, _^_, _≤_, _<_};
+ghost use lib.ListN.{length};
+use crate::output::field;
+use crate::output::words;
+
+// The tables are full of another byte before the call.
+pub fn answer(text: &[u8], token_bytes: usize, diagnostic_bytes: usize) {
+    let mut tokens = [0xAAu8; 16384];
+    let mut diagnostics = [0xAAu8; 16384];
+    if token_bytes > 16384 {
+        return;
+    }
+    if diagnostic_bytes > 16384 {
+        return;
+    }
+    lexed(
+        text,
+        &mut tokens[0..token_bytes],
+        &mut diagnostics[0..diagnostic_bytes],
+    );
+}
+
+fn lexed(text: &[u8], tokens: &mut [u8], diagnostics: &mut [u8]) {
+    let mut token_count: usize = 0xAAAA_AAAA_AAAA_AAAA;
+    let mut diagnostic_count: usize = 0xAAAA_AAAA_AAAA_AAAA;
+    let outcome = lexer::cairo_m_lex(
+        text,
+        tokens,
+        diagnostics,
+        &mut token_count,
+        &mut diagnostic_count,
+    );
+    print_counts(outcome, token_count, diagnostic_count);
+    print_tables(
+        tokens,
+        stored(outcome, 0, token_count, tokens.len() / 16),
+        diagnostics,
+        stored(outcome, 3, diagnostic_count, diagnostics.len() / 8),
+    );
+}
+
+fn print_counts(outcome: u32, token_count: usize, diagnostic_count: usize) {
+    words(b"l");
+    field(b' ', outcome as u64);
+    field(b' ', token_count as u64);
+    field(b' ', diagnostic_count as u64);
+}
+
+// For each table the bytes that should be zero and are not, then each token and each diagnostic.
+fn print_tables(tokens: &[u8], t: usize, diagnostics: &[u8], d: usize)
+    requires { ⌜ t * 16 ≤ length (now tokens) ⌝ }
+    requires { ⌜ d * 8 ≤ length (now diagnostics) ⌝ }
+{
+    field(b' ', stray(tokens, t, 16, 6) as u64);
+    field(b' ', stray(diagnostics, d, 8, 5) as u64);
+    print_tokens(tokens, t);
+    print_diagnostics(diagnostics, d);
+}
+
+// How many entries of a table are used, which only its own outcome does.
+fn stored(outcome: u32, own: u32, count: usize, room: usize) -> usize
+    ensures { λ r. ⌜ r ≤ room ⌝ }
+{
+    if outcome != own {
+        return 0;
+    }
+    if count < room { count } else { room }
+}
+
+// How many bytes are not zero though they are in no field of a used entry.
+fn stray(table: &[u8], used: usize, size: usize, gap: usize) -> usize
+    requires { ⌜ 0 < size ⌝ }
+{
+    let mut count = 0;
+    let mut i = 0;
+    while i < table.len() {
+        count += is_stray(table[i], i / size, used, i % size, gap);
+        i += 1;
+    }
+    count
+}
+
+// 1 for a byte that is not zero and stands past the used entries, or in the gap of one, which ends at place 8.
+fn is_stray(b: u8, entry: usize, used: usize, place: usize, gap: usize) -> usize
+    ensures { λ r. ⌜ r ≤ 1 ⌝ }
+{
+    if b == 0 {
+        return 0;
+    }
+    if entry < used && (place < gap || place >= 8) {
+        return 0;
+    }
+    1
+}
+
+fn print_tokens(table: &[u8], used: usize)
+    requires { ⌜ used * 16 ≤ length (now table) ⌝ }
+{
+    let mut rest = table;
+    let mut left = used;
+    while left > 0 {
+        print_token(rest);
+        rest = &rest[16..];
+        left -= 1;
+    }
+}
+
+fn print_token(entry: &[u8])
+    requires { ⌜ 16 ≤ length (now entry) ⌝ }
+{
+    words(b" ");
+    field(b't', wide(entry[0]));
+    field(b',', wide(entry[1]));
+    field(b',', two(entry, 2));
+    field(b',', two(entry, 4));
+    field(b',', eight(entry, 8));
+}
+
+fn print_diagnostics(table: &[u8], used: usize)
+    requires { ⌜ used * 8 ≤ length (now table) ⌝ }
+{
+    let mut rest = table;
+    let mut left = used;
+    while left > 0 {
+        print_diagnostic(rest);
+        rest = &rest[8..];
+        left -= 1;
+    }
+}
+
+fn print_diagnostic(entry: &[u8])
+    requires { ⌜ 8 ≤ length (now entry) ⌝ }
+{
+    words(b" ");
+    field(b'd', two(entry, 0));
+    field(b',', two(entry, 2));
+    field(b',', wide(entry[4]));
+}
+
+// Little-endian fields.
+fn two(s: &[u8], at: usize) -> u64
+    requires { ⌜ at + 2 ≤ length (now s) ⌝ }
+    ensures { λ r. ⌜ r < 65536 ⌝ }
+{
+    wide(s[at]) + 256 * wide(s[at + 1])
+}
+
+fn four(s: &[u8], at: usize) -> u64
+    requires { ⌜ at + 4 ≤ length (now s) ⌝ }
+    ensures { λ r. ⌜ r < 2 ^ 32 ⌝ }
+{
+    two(s, at) + 65536 * two(s, at + 2)
+}
+
+fn eight(s: &[u8], at: usize) -> u64
+    requires { ⌜ at + 8 ≤ length (now s) ⌝ }
+{
+    four(s, at) + 4294967296 * four(s, at + 4)
+}
+
+fn wide(b: u8) -> u64
+    ensures { λ r. ⌜ r < 256 ⌝ }
+{
+    b as u64
+}

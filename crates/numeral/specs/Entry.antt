@@ -1,0 +1,55 @@
+-- The numeral entry's answer. Assumes nothing.
+use mathlib.Core.Path.{_≡_}
+use mathlib.Core.List.{List}
+use Prim.Native.Nat.{ℕ, _≤_, _<_}
+use lib.ListN.{length}
+use Rattle.numeral.specs.Spelling as pattern
+use Rattle.numeral.specs.Numeral.{numeralOf}
+use Rattle.numeral.specs.declared.NumberLiteral.the-variants as literal
+use Rattle.numeral.specs.declared.outcome.Answer.{Answer}
+use Rattle.numeral.specs.declared.outcome.Answer.the-variants.{Number, Long, Spelling, Lexical}
+
+-- the outcomes of the numeral entry, in their order 1, 9, 3, else 0: for 3 the reason, 2 overflow, 3 format
+pub data AnswerIs (s : List ℕ) : Answer → Type 0 where
+  long : 65535 < length s → AnswerIs s Long
+  spelling : length s ≤ 65535 → (pattern.Spelling s → ⊥) → AnswerIs s Spelling
+  overflow : length s ≤ 65535 → pattern.Spelling s → numeralOf s ≡ literal.Overflow → AnswerIs s (Lexical 2)
+  format : length s ≤ 65535 → pattern.Spelling s → numeralOf s ≡ literal.InvalidFormat → AnswerIs s (Lexical 3)
+  number : {value suffix : ℕ} → length s ≤ 65535 → pattern.Spelling s → numeralOf s ≡ literal.Number value suffix → AnswerIs s (Number value suffix)
+
+-- the outcomes' numbers
+abbrev pub outcomeOf : Answer → ℕ
+outcomeOf (Number value suffix) = 0
+outcomeOf Long = 1
+outcomeOf Spelling = 9
+outcomeOf (Lexical reason) = 3
+
+-- the value; refused, it is 0
+abbrev pub valueOf : Answer → ℕ
+valueOf (Number value suffix) = value
+valueOf Long = 0
+valueOf Spelling = 0
+valueOf (Lexical reason) = 0
+
+-- the suffix; refused, it is 0
+abbrev pub suffixOf : Answer → ℕ
+suffixOf (Number value suffix) = suffix
+suffixOf Long = 0
+suffixOf Spelling = 0
+suffixOf (Lexical reason) = 0
+
+-- for 3, the reason; else 0
+abbrev pub reasonOf : Answer → ℕ
+reasonOf (Number value suffix) = 0
+reasonOf Long = 0
+reasonOf Spelling = 0
+reasonOf (Lexical reason) = reason
+
+-- the numeral entry answers outcome, value, suffix and, for 3, the reason
+pub record Answered (s : List ℕ) (outcome value suffix reason : ℕ) : Type 0 where
+  pub answer : Answer
+  pub is : AnswerIs s answer
+  pub outcome-is : outcome ≡ outcomeOf answer
+  pub value-is : value ≡ valueOf answer
+  pub suffix-is : suffix ≡ suffixOf answer
+  pub reason-is : reason ≡ reasonOf answer
