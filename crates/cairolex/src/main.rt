@@ -3,7 +3,7 @@ mod kind;
 mod rows;
 
 use rows::print;
-ghost use Prim.Native.Nat.{_≤_};
+use tables::diagnostic;
 
 // Reads one byte more than the longest text, so that a longer one is seen to be too long.
 fn main() {
@@ -35,7 +35,7 @@ fn list(text: &[u8]) {
 // [["Const",0,5,0,0],..]
 fn accepted(tokens: &[u8], count: usize) {
     print(b"[");
-    rows::tokens(tokens, least(count, tokens.len() / 16));
+    rows::tokens(tokens, count);
     print(b"]\n");
 }
 
@@ -44,12 +44,10 @@ fn refused(outcome: u32, diagnostics: &[u8], count: usize) {
     print(b"{\"refused\":");
     io::print_decimal(1, outcome as u64);
     print(b",\"diagnostics\":[");
-    rows::diagnostics(diagnostics, least(count, diagnostics.len() / 8));
+    rows::diagnostics(diagnostics, least(count, diagnostic::room(diagnostics)));
     print(b"]}\n");
 }
 
-fn least(a: usize, b: usize) -> usize
-    ensures { λ r. ⌜ r ≤ b ⌝ }
-{
+fn least(a: usize, b: usize) -> usize {
     if a < b { a } else { b }
 }

@@ -74,9 +74,9 @@ module _ {text : List ℕ} {n m : ℕ} {a b : List ℕ} {r : Lexed} (w : LexedIs
           diagnostics = w .diagnostics;
         }
 
-    pub alone-room : {a′ : List ℕ} → d ≤ 0 → length a / 16 < t → a′ ≡ cleared 0 a → length a ≡ n → AnswerIs text n m a′ b (Answer.TokenRoom t)
-    alone-room h k p l =
-        let f : n / 16 < length (v .ts) = subst (λ (i : ℕ). n / 16 < i) (v .t-is) (rw l at k) in
+    pub alone-room : {a′ : List ℕ} {r : ℕ} → d ≤ 0 → r ≡ length a / 16 → r < t → a′ ≡ cleared 0 a → length a ≡ n → AnswerIs text n m a′ b (Answer.TokenRoom t)
+    alone-room h q k p l =
+        let f : n / 16 < length (v .ts) = subst (λ (i : ℕ). n / 16 < i) (v .t-is) (rw (q, l) at k) in
         record {
           result = w .result;
           is = w .is;
@@ -85,9 +85,9 @@ module _ {text : List ℕ} {n m : ℕ} {a b : List ℕ} {r : Lexed} (w : LexedIs
           diagnostics = w .diagnostics;
         }
 
-    pub alone-accepted : d ≤ 0 → t ≤ length a / 16 → length a ≡ n → AnswerIs text n m a b (Answer.Accepted t)
-    alone-accepted h k l =
-        let f : length (v .ts) ≤ n / 16 = subst (λ (i : ℕ). i ≤ n / 16) (v .t-is) (rw l at k) in
+    pub alone-accepted : {r : ℕ} → d ≤ 0 → r ≡ length a / 16 → t ≤ r → length a ≡ n → AnswerIs text n m a b (Answer.Accepted t)
+    alone-accepted h q k l =
+        let f : length (v .ts) ≤ n / 16 = subst (λ (i : ℕ). i ≤ n / 16) (v .t-is) (rw (q, l) at k) in
         record {
           result = w .result;
           is = w .is;

@@ -222,7 +222,7 @@ module _ {text a₀ b₀ : List ℕ} where
           let all = g .goes-on [] [] (subst (λ (l : List ℕ). Lexes at l [] []) (sym (drop-of-length-le text h)) done) in
           record {
             result = lexed (g .ts) (g .ds);
-            is = lexes (g .short) (rest-end h (g .rest)) (rw (append-nil, append-nil) at all);
+            is = lexes (g .short) (rest-end h (g .rest)) (simp append-nil at all);
             answer = ap₂ Lexed.Done (g .token-count) (g .error-count);
             tokens = p ∙ ap₂ (kept 16) (g .token-count) (g .token-table) ∙ laid-kept encodeToken 16 (lit< tt) token-size a₀ (g .ts);
             diagnostics = q ∙ ap₂ (kept 8) (g .error-count) (g .error-table) ∙ laid-kept encodeDiagnostic 8 (lit< tt) diagnostic-size b₀ (g .ds);

@@ -14,7 +14,8 @@ use Rattle.patterns.specs.Patterns.{All, Name}
 use Rattle.patterns.proofs.Runs.{run-within, run-all, run-longest, run-some, all-head, letter-word, name-word, name-here}
 use Rattle.numeral.specs.Spelling.{Spelling}
 use Rattle.numeral.proofs.Spellings.{spelling-word, spelling-head, spelling-some, spelling-here}
-use Rattle.lexer.specs.Kinds.{Identifier, fixedOf}
+use Rattle.tables.specs.TokenKinds.{IDENT}
+use Rattle.lexer.specs.Kinds.{fixedOf}
 use Rattle.lexer.specs.Classes.{classOf}
 use Rattle.lexer.specs.Tokens.{Spells, Best, Stuck, Comment, white-space, comment, numeral, name, fixed}
 use Rattle.lexer.specs.Scans.{KindIs, kind, no-kind, not-newline}
@@ -35,7 +36,7 @@ spells-some k s (fixed h e) = h
 pub data Lead (s : List ℕ) (j m c : ℕ) : Type 0 where
   is-white : c ≡ 1 → All (in-set white) (take m s) → Lead s j m c
   is-comment : c ≡ 36 → getD s 1 0 ≡ 47 → All not-newline (drop 2 (take m s)) → Lead s j m c
-  is-word : All (in-set word) (take m s) → ((c ≡ 3) × (j ≡ 1)) ⊎ ((c ≡ 2) × ((j ≡ Identifier) ⊎ ((2 ≤ j) × (j ≤ 19) × (take m s ≡ fixedOf j)))) → Lead s j m c
+  is-word : All (in-set word) (take m s) → ((c ≡ 3) × (j ≡ 1)) ⊎ ((c ≡ 2) × ((j ≡ IDENT) ⊎ ((2 ≤ j) × (j ≤ 19) × (take m s ≡ fixedOf j)))) → Lead s j m c
   is-mark : 21 ≤ c → c ≤ 50 → 21 ≤ j → take m s ≡ fixedOf j → m ≤ 2 → Lead s j m c
 
 -- a byte of what the first n bytes are
@@ -157,7 +158,7 @@ best-numeral s h e =
     only s j m c e (is-word a q) = ⊎-elim (λ u. omega (arith, u .1)) (λ u. absurd (omega (arith, u .0))) q
     only s j m c e (is-mark q b d g a) = absurd (omega arith)
 
-keyword-first : (s : List ℕ) (j k m c : ℕ) → c ≡ 2 → 1 ≤ length (take m s) → KindIs 2 19 Identifier (take m s) k → Lead s j m c → k ≤ j
+keyword-first : (s : List ℕ) (j k m c : ℕ) → c ≡ 2 → 1 ≤ length (take m s) → KindIs 2 19 IDENT (take m s) k → Lead s j m c → k ≤ j
 keyword-first s j k m c e h i (is-white q a) = absurd (omega arith)
 keyword-first s j k m c e h i (is-comment q b a) = absurd (omega arith)
 keyword-first s j k m c e h i (is-mark q b d g a) = absurd (omega arith)
@@ -168,11 +169,11 @@ keyword-first s j k m c e h (kind x y z) (is-word a (inr (u, inr v))) =
     omega (arith, fixed-one k j (subst (λ (l : List ℕ). 1 ≤ length l) z h) (sym z ∙ v .2))
 keyword-first s j k m c e h (no-kind x y) (is-word a (inr (u, inr v))) = absurd (y j (v .0) (v .1) (v .2))
 
-keyword-spells : (s : List ℕ) (k : ℕ) → 1 ≤ length s → Name s → KindIs 2 19 Identifier s k → Spells k s
+keyword-spells : (s : List ℕ) (k : ℕ) → 1 ≤ length s → Name s → KindIs 2 19 IDENT s k → Spells k s
 keyword-spells s k h n (kind x y z) = fixed h z
 keyword-spells s k h n (no-kind x y) = name x n
 
-pub best-name : (s : List ℕ) (k : ℕ) → 1 ≤ length s → in-set letter (getD s 0 0) ≡ true → KindIs 2 19 Identifier (take (run (in-set word) s) s) k → Best s k (run (in-set word) s)
+pub best-name : (s : List ℕ) (k : ℕ) → 1 ≤ length s → in-set letter (getD s 0 0) ≡ true → KindIs 2 19 IDENT (take (run (in-set word) s) s) k → Best s k (run (in-set word) s)
 best-name s k h e i =
     let c = letter-class (getD s 0 0) e in
     let l : 1 ≤ length (take (run (in-set word) s) s) =

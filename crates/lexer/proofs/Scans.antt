@@ -18,7 +18,8 @@ use Rattle.patterns.proofs.Table.{below, small, within-is, within-of, subset}
 use Rattle.patterns.proofs.Runs.{Passed, passed-none, passed-more, passed-stop, passed-end, rest-is, run-within, run-all, all-imp}
 use Rattle.utf8.specs.Utf8.{Utf8, Begins, FirstChar, Rest, begins, nothing}
 use Rattle.utf8.proofs.Laws.{begins-some, begins-high, rest-none, rest-char, rest-ascii, rest-more, rest-end, rest-stop, next-ascii}
-use Rattle.lexer.specs.Kinds.{Identifier, texts, fixedOf}
+use Rattle.tables.specs.TokenKinds.{IDENT}
+use Rattle.lexer.specs.Kinds.{texts, fixedOf}
 use Rattle.lexer.specs.Classes.{classOf, Table}
 use Rattle.lexer.specs.Tokens.{Best, Stuck}
 use Rattle.lexer.specs.Scans.{KindIs, kind, no-kind, not-newline, LineIs, line, broken, Scanned}
@@ -151,13 +152,13 @@ pub record Begun (s : List ℕ) (c : ℕ) : Type 0 where
   pub class-is : c ≡ classOf (getD s 0 0)
 
 module _ {s : List ℕ} {c : ℕ} (g : Begun s c) where
-  pub found-name : {n k : ℕ} → c ≡ 2 → n ≡ run (in-set word) s → KindIs 2 19 Identifier (take n s) k → Scanned s (Found.Token k n)
+  pub found-name : {n k : ℕ} → c ≡ 2 → n ≡ run (in-set word) s → KindIs 2 19 IDENT (take n s) k → Scanned s (Found.Token k n)
   found-name {n} {k} q e i =
       let l = letter-is _ _ (g .small) (g .class-is) ∙ eq-eqb c 2 q in
       subst (λ (m : ℕ). Scanned s (Found.Token k m)) (sym e)
-      (Scanned.token (least i) (best-name s k (g .some) l (subst (λ (m : ℕ). KindIs 2 19 Identifier (take m s) k) e i)) (word-rest s))
+      (Scanned.token (least i) (best-name s k (g .some) l (subst (λ (m : ℕ). KindIs 2 19 IDENT (take m s) k) e i)) (word-rest s))
     where
-      least : {w : List ℕ} → KindIs 2 19 Identifier w k → 2 ≤ k
+      least : {w : List ℕ} → KindIs 2 19 IDENT w k → 2 ≤ k
       least (kind a b d) = a
       least (no-kind a b) = omega arith
 

@@ -17,7 +17,8 @@ use Rattle.patterns.proofs.Tests.{T-of, of-T, and-l, and-r, and-t, or-cases, im
 use Rattle.patterns.proofs.Table.{every, at, below, below-law, byte-law, small, subset, within-is, within-of}
 use Rattle.patterns.proofs.Runs.{run-all}
 use Rattle.patterns.proofs.Words.{same-is, same-self}
-use Rattle.lexer.specs.Kinds.{texts, fixedOf, Identifier}
+use Rattle.tables.specs.TokenKinds.{IDENT}
+use Rattle.lexer.specs.Kinds.{texts, fixedOf}
 use Rattle.lexer.specs.Classes.{kindFrom, nextOf, pairOf, classOf, Table}
 use Rattle.lexer.specs.Scans.{KindIs, kind, no-kind}
 
@@ -97,7 +98,7 @@ unfoldable pub listed : (ℕ → Bool) → List ℕ → ℕ → Bool
 unfolding fixedOf texts member
 listed f l j = implies (within 2 19 j && f (length (fixedOf j))) (member j l)
 
-pub no-keyword : (w : List ℕ) (f : ℕ → Bool) (l : List ℕ) → T (below 51 (listed f l)) → T (f (length w)) → NoneOf w l → KindIs 2 19 Identifier w Identifier
+pub no-keyword : (w : List ℕ) (f : ℕ → Bool) (l : List ℕ) → T (below 51 (listed f l)) → T (f (length w)) → NoneOf w l → KindIs 2 19 IDENT w IDENT
 unfolding listed
 no-keyword w f l t h n =
     no-kind refl

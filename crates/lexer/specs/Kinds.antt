@@ -1,18 +1,13 @@
--- The kinds of tokens, in `TokenType`'s order from 1, and their fixed texts; 0 stands for what is skipped. Assumes nothing.
+-- The fixed texts of the kinds of tokens. Assumes nothing.
 use mathlib.Core.List.{List, [], _∷_}
 use Prim.Native.Nat.{ℕ}
 use Prim.Native.String.{String}
 use lib.ListN.{getD}
 use Rattle.patterns.specs.Bytes.{bytes}
 
+-- what is skipped has no kind of its own
 abbrev pub Skipped : ℕ
 Skipped = 0
-
-abbrev pub LiteralNumber : ℕ
-LiteralNumber = 1
-
-abbrev pub Identifier : ℕ
-Identifier = 20
 
 -- the text of each kind from 0 on, "" for a kind that has no fixed one
 unfoldable pub texts : List String

@@ -8,7 +8,7 @@ use Rattle.utf8.specs.Utf8.{Begins}
 use Rattle.numeral.specs.Numeral.{numeralOf}
 use Rattle.numeral.specs.declared.NumberLiteral.{NumberLiteral}
 use Rattle.numeral.specs.declared.NumberLiteral.the-variants.{Number, Overflow, InvalidFormat}
-use Rattle.lexer.specs.Kinds.{LiteralNumber}
+use Rattle.tables.specs.TokenKinds.{NUMBER}
 use Rattle.lexer.specs.Tokens.{Best, Stuck}
 
 -- what stands at a place: something skipped, a token, or a lexical error
@@ -20,7 +20,7 @@ pub data Item : Type 0 where
 -- a match of kind k: a numeral is what its spelling says, and tokens other than numerals have 0 for suffix and value
 abbrev pub itemOf : ℕ → NumberLiteral → Item
 itemOf zero a = skipped
-itemOf (suc zero) (Number v x) = token LiteralNumber x v
+itemOf (suc zero) (Number v x) = token NUMBER x v
 itemOf (suc zero) Overflow = error 2
 itemOf (suc zero) InvalidFormat = error 3
 itemOf (suc (suc k)) a = token (suc (suc k)) 0 0

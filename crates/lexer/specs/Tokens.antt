@@ -6,7 +6,8 @@ use lib.ListN.{length, take}
 use Rattle.patterns.specs.Bytes.{white}
 use Rattle.patterns.specs.Patterns.{Pattern, some-of, any-not-of, text, _then_, Name}
 use Rattle.numeral.specs.Spelling.{Spelling}
-use Rattle.lexer.specs.Kinds.{Skipped, LiteralNumber, Identifier, fixedOf}
+use Rattle.tables.specs.TokenKinds.{NUMBER, IDENT}
+use Rattle.lexer.specs.Kinds.{Skipped, fixedOf}
 
 -- skipped: tab, LF, CR, space
 abbrev pub White : Pattern
@@ -20,8 +21,8 @@ Comment = text "//" then any-not-of (("\n", "\n") ∷ [])
 pub data Spells (k : ℕ) (s : List ℕ) : Type 0 where
   white-space : k ≡ Skipped → White s → Spells k s
   comment : k ≡ Skipped → Comment s → Spells k s
-  numeral : k ≡ LiteralNumber → Spelling s → Spells k s
-  name : k ≡ Identifier → Name s → Spells k s
+  numeral : k ≡ NUMBER → Spelling s → Spells k s
+  name : k ≡ IDENT → Name s → Spells k s
   fixed : 1 ≤ length s → s ≡ fixedOf k → Spells k s
 
 -- the longest match from the place reached; the keywords beat a name of equal length, as the earlier kind

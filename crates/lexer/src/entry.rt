@@ -2,6 +2,7 @@
 use super::lexing::Lexed;
 use super::lexing::lex;
 use tables::clear_from;
+use tables::token::room;
 ghost use mathlib.Core.Path.{_≡_};
 ghost use lib.ListN.{length};
 ghost use Rattle.lexer.specs.Answers.{AnswerIs, EntryIs};
@@ -29,7 +30,7 @@ pub fn lex_alone(text: &[u8], tokens: &mut [u8], diagnostics: &mut [u8]) -> Answ
                 clear_from(tokens, 0);
                 return Answer::Lexical(d);
             }
-            if t > tokens.len() / 16 {
+            if t > room(tokens) {
                 clear_from(tokens, 0);
                 return Answer::TokenRoom(t);
             }

@@ -12,7 +12,7 @@ ghost use Prim.Native.Nat.{_<_};
 ghost use lib.ListN.{length};
 ghost use Rattle.patterns.specs.Bytes.{in-set, white, word, run};
 ghost use Rattle.lexer.specs.Classes.{classOf, nextOf, pairOf, Table};
-ghost use Rattle.lexer.specs.Kinds.{Identifier};
+ghost use Rattle.tables.specs.TokenKinds.{IDENT};
 ghost use Rattle.lexer.specs.Scans.{KindIs, LineIs, Scanned};
 ghost use Rattle.lexer.specs.Tokens.{Stuck};
 
@@ -84,7 +84,7 @@ fn line_run(t: &[u8]) -> usize
 
 // The kind of a word: a keyword's, or a name's.
 fn keyword(w: &[u8]) -> u8
-    ensures { λ r. ⌜ KindIs 2 19 Identifier (now (w .entry)) r ⌝ }
+    ensures { λ r. ⌜ KindIs 2 19 IDENT (now (w .entry)) r ⌝ }
 {
     let n = w.len();
     if n == 2 {

@@ -1,8 +1,9 @@
 // A case of the lexing entry.
-ghost use Prim.Native.Nat.{_+_, _*_, _^_, _≤_, _<_};
-ghost use lib.ListN.{length};
+ghost use Prim.Native.Nat.{_≤_, _<_};
 use crate::output::field;
 use crate::output::words;
+use tables::diagnostic;
+use tables::token;
 
 // The tables are full of another byte before the call.
 pub fn answer(text: &[u8], token_bytes: usize, diagnostic_bytes: usize) {
@@ -34,9 +35,9 @@ fn lexed(text: &[u8], tokens: &mut [u8], diagnostics: &mut [u8]) {
     print_counts(outcome, token_count, diagnostic_count);
     print_tables(
         tokens,
-        stored(outcome, 0, token_count, tokens.len() / 16),
+        stored(outcome, 0, token_count, token::room(tokens)),
         diagnostics,
-        stored(outcome, 3, diagnostic_count, diagnostics.len() / 8),
+        stored(outcome, 3, diagnostic_count, diagnostic::room(diagnostics)),
     );
 }
 
@@ -48,10 +49,7 @@ fn print_counts(outcome: u32, token_count: usize, diagnostic_count: usize) {
 }
 
 // For each table the bytes that should be zero and are not, then each token and each diagnostic.
-fn print_tables(tokens: &[u8], t: usize, diagnostics: &[u8], d: usize)
-    requires { ⌜ t * 16 ≤ length (now tokens) ⌝ }
-    requires { ⌜ d * 8 ≤ length (now diagnostics) ⌝ }
-{
+fn print_tables(tokens: &[u8], t: usize, diagnostics: &[u8], d: usize) {
     field(b' ', stray(tokens, t, 16, 6) as u64);
     field(b' ', stray(diagnostics, d, 8, 5) as u64);
     print_tokens(tokens, t);
@@ -59,9 +57,7 @@ fn print_tables(tokens: &[u8], t: usize, diagnostics: &[u8], d: usize)
 }
 
 // How many entries of a table are used, which only its own outcome does.
-fn stored(outcome: u32, own: u32, count: usize, room: usize) -> usize
-    ensures { λ r. ⌜ r ≤ room ⌝ }
-{
+fn stored(outcome: u32, own: u32, count: usize, room: usize) -> usize {
     if outcome != own {
         return 0;
     }
@@ -94,73 +90,30 @@ fn is_stray(b: u8, entry: usize, used: usize, place: usize, gap: usize) -> usize
     1
 }
 
-fn print_tokens(table: &[u8], used: usize)
-    requires { ⌜ used * 16 ≤ length (now table) ⌝ }
-{
-    let mut rest = table;
-    let mut left = used;
-    while left > 0 {
-        print_token(rest);
-        rest = &rest[16..];
-        left -= 1;
+fn print_tokens(table: &[u8], used: usize) {
+    for i in 0..used {
+        print_token(table, i);
     }
 }
 
-fn print_token(entry: &[u8])
-    requires { ⌜ 16 ≤ length (now entry) ⌝ }
-{
+fn print_token(table: &[u8], i: usize) {
     words(b" ");
-    field(b't', wide(entry[0]));
-    field(b',', wide(entry[1]));
-    field(b',', two(entry, 2));
-    field(b',', two(entry, 4));
-    field(b',', eight(entry, 8));
+    field(b't', token::kind(table, i) as u64);
+    field(b',', token::suffix(table, i) as u64);
+    field(b',', token::start(table, i) as u64);
+    field(b',', token::end(table, i) as u64);
+    field(b',', token::value(table, i));
 }
 
-fn print_diagnostics(table: &[u8], used: usize)
-    requires { ⌜ used * 8 ≤ length (now table) ⌝ }
-{
-    let mut rest = table;
-    let mut left = used;
-    while left > 0 {
-        print_diagnostic(rest);
-        rest = &rest[8..];
-        left -= 1;
+fn print_diagnostics(table: &[u8], used: usize) {
+    for i in 0..used {
+        print_diagnostic(table, i);
     }
 }
 
-fn print_diagnostic(entry: &[u8])
-    requires { ⌜ 8 ≤ length (now entry) ⌝ }
-{
+fn print_diagnostic(table: &[u8], i: usize) {
     words(b" ");
-    field(b'd', two(entry, 0));
-    field(b',', two(entry, 2));
-    field(b',', wide(entry[4]));
-}
-
-// Little-endian fields.
-fn two(s: &[u8], at: usize) -> u64
-    requires { ⌜ at + 2 ≤ length (now s) ⌝ }
-    ensures { λ r. ⌜ r < 65536 ⌝ }
-{
-    wide(s[at]) + 256 * wide(s[at + 1])
-}
-
-fn four(s: &[u8], at: usize) -> u64
-    requires { ⌜ at + 4 ≤ length (now s) ⌝ }
-    ensures { λ r. ⌜ r < 2 ^ 32 ⌝ }
-{
-    two(s, at) + 65536 * two(s, at + 2)
-}
-
-fn eight(s: &[u8], at: usize) -> u64
-    requires { ⌜ at + 8 ≤ length (now s) ⌝ }
-{
-    four(s, at) + 4294967296 * four(s, at + 4)
-}
-
-fn wide(b: u8) -> u64
-    ensures { λ r. ⌜ r < 256 ⌝ }
-{
-    b as u64
+    field(b'd', diagnostic::start(table, i) as u64);
+    field(b',', diagnostic::end(table, i) as u64);
+    field(b',', diagnostic::reason(table, i) as u64);
 }

@@ -1,15 +1,15 @@
 -- Tables that are filled entry by entry, over the entry's size. Assumes nothing.
 use mathlib.Core.Path.{_≡_, refl, sym, ap, ap₂, subst, _∙_}
 use mathlib.Core.List.{List, [], _∷_, _++_, append-assoc, append-nil}
-use Prim.Native.Nat.{ℕ, zero, suc, _+_, _-_, _*_, _/_, _%_, _≤_, _<_, min, zero-le}
-use native.Mathlib.Nat.{zero-mul, suc-mul, add-comm, add-zero, add-suc, suc-add, sub-zero, zero-sub, suc-sub-suc, le-div-iff-mul-le}
-use native.Mathlib.Numerals.{add-one}
+use Prim.Native.Nat.{ℕ, zero, suc, _+_, _-_, _*_, _/_, _%_, _^_, _≤_, _<_, min, zero-le}
+use native.Mathlib.Nat.{zero-mul, suc-mul, add-comm, add-zero, add-suc, suc-add, sub-zero, zero-sub, suc-sub-suc, div-zero, mod-add-div, div-div-eq-div-mul, mul-le-mul-right, le-div-iff-mul-le}
+use native.Mathlib.Numerals.{add-one, towards-suc}
 use native.Mathlib.Omega.{arith}
 use native.Mathlib.Decide.{decLt}
-use lib.ListN.{length, take, drop, set, replicate, length-append, length-take, length-drop, length-replicate, length-set, drop-of-length-le, take-append-drop}
-use lib.Seq.{take-nil, take-all, take-append-le, take-append-add, drop-append-add, take-at, drop-at, drop-drop, sets, sets-eq, length-sets, set-split, take-suc-set, drop-set-lt}
+use lib.ListN.{length, getD, take, drop, set, replicate, length-append, length-take, length-drop, length-replicate, length-set, drop-of-length-le, take-append-drop}
+use lib.Seq.{take-nil, take-all, take-append-le, take-append-add, drop-append-add, take-at, drop-at, drop-drop, sets, sets-eq, length-sets, set-split, take-suc-set, drop-set-lt, getD-take, getD-drop}
 use borrow.Author.Tests.{lt-ltb, le-ltb}
-use Rattle.tables.specs.Tables.{Token, Diagnostic, le16, le64, encodeToken, encodeDiagnostic, joined, filled, table, stored, cleared, kept}
+use Rattle.tables.specs.Tables.{Token, Diagnostic, le16, le64, encodeToken, encodeDiagnostic, joined, filled, table, stored, cleared, kept, number, entryAt, decodeToken, decodeDiagnostic, tokenAt, diagnosticAt, tokenTable, diagnosticTable}
 
 abbrev zeros : ℕ → List ℕ
 zeros n = replicate n 0
@@ -105,21 +105,20 @@ unfolding joined
 joined-length f w h [] = sym (zero-mul w)
 joined-length f w h (a ∷ l) = length-append (f a) (joined f l) ∙ ap₂ _+_ (h a) (joined-length f w h l) ∙ add-comm w (length l * w) ∙ sym (suc-mul (length l) w)
 
+in-room : {A : Type 0} (f : A → List ℕ) (w : ℕ) → 0 < w → ((a : A) → length (f a) ≡ w) → (n : ℕ) (l : List A) → length (joined f (take (n / w) l)) ≤ n
+in-room f w some-size each n l =
+    subst (λ (m : ℕ). m ≤ n) (sym (joined-length f w each (take (n / w) l))) (le-div-iff-mul-le some-size .0 (omega (arith, length-take (n / w) l)))
+
 -- the table t with the entries l, as many as there is room for, laid over its front
 pub laid : {A : Type 0} → ℕ → (A → List ℕ) → List ℕ → List A → List ℕ
 laid w f t l = joined f (take (length t / w) l) ++ drop (length (joined f (take (length t / w) l))) t
 
 module _ {A : Type 0} (f : A → List ℕ) (w : ℕ) (some-size : 0 < w) (each : (a : A) → length (f a) ≡ w) (t : List ℕ) where
-  in-room : (l : List A) → length (joined f (take (length t / w) l)) ≤ length t
-  in-room l =
-      subst (λ (n : ℕ). n ≤ length t) (sym (joined-length f w each (take (length t / w) l)))
-      (le-div-iff-mul-le some-size .0 (omega (arith, length-take (length t / w) l)))
-
   pub laid-length : (l : List A) → length (laid w f t l) ≡ length t
   unfolding laid
   laid-length l =
       let b = joined f (take (length t / w) l) in
-      omega (arith, length-append b (drop (length b) t), length-drop (length b) t, in-room l)
+      omega (arith, length-append b (drop (length b) t), length-drop (length b) t, in-room f w some-size each (length t) l)
 
   pub laid-none : laid w f t [] ≡ t
   unfolding laid joined
@@ -150,7 +149,7 @@ module _ {A : Type 0} (f : A → List ℕ) (w : ℕ) (some-size : 0 < w) (each :
       let b = joined f (take (length t / w) l) in
       let n : min (length l) (length t / w) * w ≡ length b =
       ap (λ (k : ℕ). k * w) (omega (arith, length-take (length t / w) l)) ∙ sym (joined-length f w each (take (length t / w) l)) in
-      rw (laid-length l, n, take-at b (drop (length b) t) (length b) refl) (sym (filled-is (length t) b (in-room l)))
+      rw (laid-length l, n, take-at b (drop (length b) t) (length b) refl) (sym (filled-is (length t) b (in-room f w some-size each (length t) l)))
 
 -- ---- entries' sizes, and tables that are all zero
 pub token-size : (t : Token) → length (encodeToken t) ≡ 16
@@ -164,3 +163,144 @@ diagnostic-size d = refl
 pub cleared-all : (t : List ℕ) → cleared 0 t ≡ zeros (length t)
 unfolding cleared
 cleared-all t = ap zeros (sub-zero (length t))
+
+-- ---- reading an entry
+-- entry i is within n bytes
+pub room : (n w i : ℕ) → i < n / w → i * w + w ≤ n
+room n zero i h = absurd (omega (arith, div-zero n))
+room n (suc w) i h = omega (arith, suc-mul i (suc w), le-div-iff-mul-le {k = suc w} (omega arith) .0 h)
+
+module _ (t : List ℕ) (k : ℕ) where
+  pub number-one : getD t k 0 ≡ number t k 1
+  unfolding number
+  number-one = simp towards-suc
+
+  pub number-two : {r : ℕ} → r ≡ getD t k 0 + 256 * getD t (k + 1) 0 → r ≡ number t k 2
+  unfolding number
+  number-two e = e ∙ simp towards-suc
+
+  pub number-eight : {r : ℕ}
+      → r ≡ getD t k 0 + 256 * (getD t (k + 1) 0 + 256 * (getD t (k + 2) 0 + 256 * (getD t (k + 3) 0 + 256 * (getD t (k + 4) 0 + 256 * (getD t (k + 5) 0 + 256 * (getD t (k + 6) 0 + 256 * getD t (k + 7) 0))))))
+      → r ≡ number t k 8
+  unfolding number
+  number-eight e = e ∙ simp towards-suc
+
+getD-padded : (b : List ℕ) (m i : ℕ) → length b ≤ i → getD (b ++ zeros m) i 0 ≡ 0
+getD-padded [] zero i h = refl
+getD-padded [] (suc m) zero h = refl
+getD-padded [] (suc m) (suc i) h = getD-padded [] m i zero-le
+getD-padded (x ∷ b) m zero h = absurd (omega arith)
+getD-padded (x ∷ b) m (suc i) h = getD-padded b m i (omega arith)
+
+number-padded : (b : List ℕ) (m a n : ℕ) → length b ≤ a → number (b ++ zeros m) a n ≡ 0
+unfolding number
+number-padded b m a zero h = refl
+number-padded b m a (suc n) h = rw (getD-padded b m a h, number-padded b m (suc a) n (omega arith))
+
+module _ (w i : ℕ) (t : List ℕ) where
+  number-entry : (a n : ℕ) → i < length t / w → a + n ≤ w → number t (i * w + a) n ≡ number (entryAt w t i) a n
+  unfolding number entryAt
+  number-entry a zero h fits = refl
+  number-entry a (suc n) h fits =
+      ap₂ (λ (x y : ℕ). x + 256 * y)
+      (rw (lt-ltb i (length t / w) h) (sym (getD-take w (drop (i * w) t) a 0 (omega arith) ∙ getD-drop (i * w) t a 0)))
+      (ap (λ (k : ℕ). number t k n) (sym (add-suc (i * w) a)) ∙ number-entry (suc a) n h (omega arith))
+
+  pub number-in : (a n : ℕ) {k r : ℕ} → i < length t / w → a + n ≤ w → k ≡ i * w + a → r ≡ number t k n → r ≡ number (entryAt w t i) a n
+  number-in a n h fits e f = f ∙ ap (λ (k : ℕ). number t k n) e ∙ number-entry a n h fits
+
+  pub number-none : (a n : ℕ) → length t / w ≤ i → 0 ≡ number (entryAt w t i) a n
+  unfolding entryAt
+  number-none a n h = rw (le-ltb i (length t / w) h) (sym (number-padded [] 0 a n zero-le))
+
+-- ---- what was laid down is read back
+module _ {A : Type 0} (f : A → List ℕ) (w : ℕ) (some-size : 0 < w) (each : (a : A) → length (f a) ≡ w) where
+  joined-at : (l : List A) (i : ℕ) (d : A) (z : List ℕ) → i < length l → take w (drop (i * w) (joined f l ++ z)) ≡ f (getD l i d)
+  unfolding joined
+  joined-at [] i d z h = absurd (omega arith)
+  joined-at (a ∷ l) zero d z h = rw (zero-mul, append-assoc) (take-at (f a) (joined f l ++ z) w (each a))
+  joined-at (a ∷ l) (suc i) d z h =
+      rw (suc-mul, add-comm (i * w) w, append-assoc, ← drop-drop (i * w) w (f a ++ (joined f l ++ z)), drop-at (f a) (joined f l ++ z) w (each a))
+      (joined-at l i d z (omega arith))
+
+  module _ (n : ℕ) (l : List A) where
+    table-is : table w f n l ≡ joined f (take (n / w) l) ++ zeros (n - length (joined f (take (n / w) l)))
+    unfolding table
+    table-is = filled-is n (joined f (take (n / w) l)) (in-room f w some-size each n l)
+
+    pub table-length : length (table w f n l) ≡ n
+    table-length =
+        let b = joined f (take (n / w) l) in
+        rw table-is (omega (arith, length-append b (zeros (n - length b)), length-replicate {A = ℕ} (n - length b) 0, in-room f w some-size each n l))
+
+    pub entry-stored : (i : ℕ) (d : A) → i < length l → i < n / w → entryAt w (table w f n l) i ≡ f (getD l i d)
+    unfolding entryAt
+    entry-stored i d h k =
+        rw (table-length, lt-ltb i (n / w) k, table-is)
+        (joined-at (take (n / w) l) i d (zeros (n - length (joined f (take (n / w) l)))) (omega (arith, length-take (n / w) l))
+        ∙ ap f (getD-take (n / w) l i d k))
+
+    -- past them all is 0
+    pub number-past : (i : ℕ) → length l ≤ i → (a k : ℕ) → a + k ≤ w → number (entryAt w (table w f n l) i) a k ≡ 0
+    number-past i h a k fits =
+        elim (decLt i (n / w)) [
+          | yes p ↦
+              let b = joined f (take (n / w) l) in
+              let m : length (take (n / w) l) ≤ i = omega (arith, length-take (n / w) l) in
+              sym (number-entry w i (table w f n l) a k (rw table-length p) fits)
+              ∙ rw table-is (number-padded b (n - length b) (i * w + a) k (omega (arith, joined-length f w each (take (n / w) l), mul-le-mul-right w m)))
+          | no p ↦ sym (number-none w i (table w f n l) a k (rw table-length (omega arith)))
+        ]
+
+-- every field fits its bytes
+pub record TokenFits (t : Token) : Type 0 where
+  pub kind-fits : t .kind < 256
+  pub suffix-fits : t .suffix < 256
+  pub start-fits : t .start < 65536
+  pub end-fits : t .end < 65536
+  pub value-fits : t .value < 2 ^ 64
+
+pub record DiagnosticFits (d : Diagnostic) : Type 0 where
+  pub start-fits : d .start < 65536
+  pub end-fits : d .end < 65536
+  pub reason-fits : d .reason < 256
+
+half-decoded : (v : ℕ) → v < 65536 → v % 256 + 256 * (v / 256 % 256 + 256 * 0) ≡ v
+half-decoded v h = omega arith
+
+digit : (v m : ℕ) → v / m % 256 + 256 * (v / (m * 256)) ≡ v / m
+digit v m = rw (← div-div-eq-div-mul v m 256) (mod-add-div (v / m) 256)
+
+word-decoded : (v : ℕ) → v < 2 ^ 64 → number (le64 v) 0 8 ≡ v
+unfolding number le64
+word-decoded v h =
+    let last : v / 2 ^ 56 % 256 + 256 * 0 ≡ v / 2 ^ 56 = omega arith in
+    rw (last, digit v (2 ^ 48), digit v (2 ^ 40), digit v (2 ^ 32), digit v (2 ^ 24), digit v (2 ^ 16), digit v (2 ^ 8)) (mod-add-div v 256)
+
+token-decoded : (t : Token) → TokenFits t → decodeToken (encodeToken t) ≡ t
+unfolding encodeToken le16 le64 number
+token-decoded t h =
+    rw (add-zero (t .kind), add-zero (t .suffix), half-decoded (t .start) (h .start-fits), half-decoded (t .end) (h .end-fits), word-decoded (t .value) (h .value-fits))
+
+diagnostic-decoded : (d : Diagnostic) → DiagnosticFits d → decodeDiagnostic (encodeDiagnostic d) ≡ d
+unfolding encodeDiagnostic le16 number
+diagnostic-decoded t h =
+    rw (half-decoded (t .start) (h .start-fits), half-decoded (t .end) (h .end-fits), add-zero (t .reason))
+
+pub token-read : (n : ℕ) (ts : List Token) (i : ℕ) (d : Token) → i < length ts → i < n / 16 → TokenFits (getD ts i d) → tokenAt (tokenTable n ts) i ≡ getD ts i d
+token-read n ts i d h k fits = ap decodeToken (entry-stored encodeToken 16 (omega arith) token-size n ts i d h k) ∙ token-decoded (getD ts i d) fits
+
+pub diagnostic-read : (n : ℕ) (ds : List Diagnostic) (i : ℕ) (d : Diagnostic) → i < length ds → i < n / 8 → DiagnosticFits (getD ds i d)
+    → diagnosticAt (diagnosticTable n ds) i ≡ getD ds i d
+diagnostic-read n ds i d h k fits =
+    ap decodeDiagnostic (entry-stored encodeDiagnostic 8 (omega arith) diagnostic-size n ds i d h k) ∙ diagnostic-decoded (getD ds i d) fits
+
+pub token-past : (n : ℕ) (ts : List Token) (i : ℕ) → length ts ≤ i → tokenAt (tokenTable n ts) i ≡ record { kind = 0; suffix = 0; start = 0; end = 0; value = 0 }
+token-past n ts i h =
+    let past = number-past encodeToken 16 (omega arith) token-size n ts i h in
+    rw (past 0 1 (omega arith), past 1 1 (omega arith), past 2 2 (omega arith), past 4 2 (omega arith), past 8 8 (omega arith))
+
+pub diagnostic-past : (n : ℕ) (ds : List Diagnostic) (i : ℕ) → length ds ≤ i → diagnosticAt (diagnosticTable n ds) i ≡ record { start = 0; end = 0; reason = 0 }
+diagnostic-past n ds i h =
+    let past = number-past encodeDiagnostic 8 (omega arith) diagnostic-size n ds i h in
+    rw (past 0 2 (omega arith), past 2 2 (omega arith), past 4 1 (omega arith))

@@ -1,9 +1,9 @@
 -- The tables that a caller lends: bytes, as a C struct lays the entries out. Assumes nothing.
 use mathlib.Core.Bool.{cond}
 use mathlib.Core.List.{List, [], _∷_, _++_}
-use Prim.Native.Nat.{ℕ, _-_, _*_, _/_, _%_, _^_, min}
+use Prim.Native.Nat.{ℕ, zero, suc, _+_, _-_, _*_, _/_, _%_, _^_, min}
 use lib.Dec.{ltb}
-use lib.ListN.{length, take, drop, replicate}
+use lib.ListN.{length, getD, take, drop, replicate}
 use lib.Seq.{sets}
 
 -- `TokenType`'s order from 1, the numeral's value and suffix (0 none, 1 felt, 2 u32, 3 other), the place in the text
@@ -67,3 +67,29 @@ cleared from t = take from t ++ replicate (length t - from) 0
 unfoldable pub kept : ℕ → ℕ → List ℕ → List ℕ
 unfolding cleared
 kept size k t = cleared (min k (length t / size) * size) t
+
+-- ---- what they read
+-- the little-endian number of n bytes from place a on
+unfoldable pub number : List ℕ → ℕ → ℕ → ℕ
+number b a zero = 0
+number b a (suc n) = getD b a 0 + 256 * number b (suc a) n
+
+-- the bytes of entry i of a table; none where the table has no entry i
+unfoldable pub entryAt : ℕ → List ℕ → ℕ → List ℕ
+entryAt size t i = cond (ltb i (length t / size)) (take size (drop (i * size) t)) []
+
+-- the token that an entry's bytes say
+abbrev pub decodeToken : List ℕ → Token
+decodeToken b = record { kind = number b 0 1; suffix = number b 1 1; start = number b 2 2; end = number b 4 2; value = number b 8 8 }
+
+-- the diagnostic that an entry's bytes say
+abbrev pub decodeDiagnostic : List ℕ → Diagnostic
+decodeDiagnostic b = record { start = number b 0 2; end = number b 2 2; reason = number b 4 1 }
+
+-- entry i of a table of tokens, all 0 where the table has no entry i
+abbrev pub tokenAt : List ℕ → ℕ → Token
+tokenAt t i = decodeToken (entryAt 16 t i)
+
+-- entry i of a table of diagnostics, all 0 where the table has no entry i
+abbrev pub diagnosticAt : List ℕ → ℕ → Diagnostic
+diagnosticAt t i = decodeDiagnostic (entryAt 8 t i)

@@ -1,8 +1,12 @@
 // Diagnostic entries.
+use super::byte;
 use super::clear_from;
+use super::half;
 use super::put_word;
 ghost use mathlib.Core.Path.{_≡_};
-ghost use Rattle.tables.specs.Tables.{encodeDiagnostic, stored, kept};
+ghost use Prim.Native.Nat.{_/_};
+ghost use lib.ListN.{length};
+ghost use Rattle.tables.specs.Tables.{encodeDiagnostic, stored, kept, diagnosticAt};
 
 // Stores entry i, where there is room for it.
 pub fn put_diagnostic(t: &mut [u8], i: usize, start: u16, end: u16, reason: u8)
@@ -25,4 +29,30 @@ pub fn keep_diagnostics(t: &mut [u8], k: usize)
         return;
     }
     clear_from(t, room * 8);
+}
+
+// How many entries there is room for.
+pub fn room(t: &[u8]) -> usize
+    ensures { λ r. ⌜ r ≡ length (now (t .entry)) / 8 ⌝ }
+{
+    t.len() / 8
+}
+
+// The fields of entry i, 0 where there is no entry i.
+pub fn start(t: &[u8], i: usize) -> u16
+    ensures { λ r. ⌜ r ≡ diagnosticAt (now (t .entry)) i .start ⌝ }
+{
+    half(t, 8, i, 0)
+}
+
+pub fn end(t: &[u8], i: usize) -> u16
+    ensures { λ r. ⌜ r ≡ diagnosticAt (now (t .entry)) i .end ⌝ }
+{
+    half(t, 8, i, 2)
+}
+
+pub fn reason(t: &[u8], i: usize) -> u8
+    ensures { λ r. ⌜ r ≡ diagnosticAt (now (t .entry)) i .reason ⌝ }
+{
+    byte(t, 8, i, 4)
 }

@@ -1,8 +1,13 @@
 // Token entries.
+use super::byte;
 use super::clear_from;
+use super::half;
 use super::put_word;
+use super::word;
 ghost use mathlib.Core.Path.{_≡_};
-ghost use Rattle.tables.specs.Tables.{encodeToken, stored, kept};
+ghost use Prim.Native.Nat.{_/_};
+ghost use lib.ListN.{length};
+ghost use Rattle.tables.specs.Tables.{encodeToken, stored, kept, tokenAt};
 
 // Stores entry i, where there is room for it.
 pub fn put_token(t: &mut [u8], i: usize, kind: u8, suffix: u8, start: u16, end: u16, value: u64)
@@ -29,4 +34,42 @@ pub fn keep_tokens(t: &mut [u8], k: usize)
         return;
     }
     clear_from(t, room * 16);
+}
+
+// How many entries there is room for.
+pub fn room(t: &[u8]) -> usize
+    ensures { λ r. ⌜ r ≡ length (now (t .entry)) / 16 ⌝ }
+{
+    t.len() / 16
+}
+
+// The fields of entry i, 0 where there is no entry i.
+pub fn kind(t: &[u8], i: usize) -> u8
+    ensures { λ r. ⌜ r ≡ tokenAt (now (t .entry)) i .kind ⌝ }
+{
+    byte(t, 16, i, 0)
+}
+
+pub fn suffix(t: &[u8], i: usize) -> u8
+    ensures { λ r. ⌜ r ≡ tokenAt (now (t .entry)) i .suffix ⌝ }
+{
+    byte(t, 16, i, 1)
+}
+
+pub fn start(t: &[u8], i: usize) -> u16
+    ensures { λ r. ⌜ r ≡ tokenAt (now (t .entry)) i .start ⌝ }
+{
+    half(t, 16, i, 2)
+}
+
+pub fn end(t: &[u8], i: usize) -> u16
+    ensures { λ r. ⌜ r ≡ tokenAt (now (t .entry)) i .end ⌝ }
+{
+    half(t, 16, i, 4)
+}
+
+pub fn value(t: &[u8], i: usize) -> u64
+    ensures { λ r. ⌜ r ≡ tokenAt (now (t .entry)) i .value ⌝ }
+{
+    word(t, 16, i, 8)
 }

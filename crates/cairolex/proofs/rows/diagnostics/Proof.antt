@@ -1,15 +1,14 @@
--- The rest holds every entry that is left. The measure is their number.
-use Prim.Native.Nat.{_*_, _≤_}
+-- The measure is how many entries are left.
+use Prim.Native.Nat.{_-_}
 use borrow.Author.Needs.{needs}
-use lib.ListN.{length}
 use Rattle.cairolex.proofs.rows.diagnostics.Statement.{statement}
 use Rattle.cairolex.proofs.rows.diagnostics.Tie as tie
 
 abbrev Inv-loop : tie.InvT-loop
-Inv-loop table count rest₀ left₀ rest left = left * 8 ≤ length rest
+Inv-loop table count i₀ i = Unit {0}
 
 abbrev μ-loop : tie.MeasureT-loop
-μ-loop table count rest₀ left₀ rest left = left
+μ-loop table count i₀ i = count - i
 
 pub diagnostics-spec : {M : Type 1} → statement M
 diagnostics-spec =
@@ -20,9 +19,6 @@ diagnostics-spec =
     (λ c. search needs)
     (λ c κs. search needs)
     (λ c κs. search needs)
-    (λ c. search needs)
-    (λ c. search needs)
-    (λ c. search needs)
     (λ c. search needs)
     (λ c. search needs)
     (λ c. search needs)

@@ -16,6 +16,7 @@ lex-alone-spec =
     (λ c. search needs)
     (λ c. search (needs, alone-lexical))
     (λ c κs. search needs)
+    (λ c κs. search needs)
     (λ c. search needs)
     (λ c. search needs)
     (λ c. search (needs, alone-room))
@@ -27,4 +28,4 @@ lex-alone-spec =
     (λ c. search (needs, alone-encoding))
     (λ c. search needs)
     (λ c. search needs)
-    (λ c. search (needs, alone-accepted)))
+    (λ c. let k = c .before .before .before .before .before in alone-accepted (k .before .before .before .before .before .before .lex .ensures) (k .r .given .1) (c .before .before .before .if1 .left) (c .before .room .ensures) (c .if2 .left) (search needs)))

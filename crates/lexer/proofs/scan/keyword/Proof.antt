@@ -9,20 +9,21 @@ use borrow.Author.Tests.{eq-eqb, ne-eqb}
 use Rattle.patterns.specs.Bytes.{same, within}
 use Rattle.patterns.proofs.Tests.{T-of}
 use Rattle.patterns.proofs.Table.{below, within-is}
-use Rattle.lexer.specs.Kinds.{Identifier, fixedOf, texts}
+use Rattle.tables.specs.TokenKinds.{IDENT}
+use Rattle.lexer.specs.Kinds.{fixedOf, texts}
 use Rattle.lexer.specs.Scans.{KindIs}
 use Rattle.lexer.proofs.Texts.{member, listed, NoneOf, no-keyword, is-kind, told}
 use Rattle.lexer.proofs.scan.keyword.Statement.{statement}
 use Rattle.lexer.proofs.scan.keyword.Tie as tie
 
 module _ {w : List ℕ} where
-  yes : (k : ℕ) → T (within 2 19 k) → same (fixedOf k) w ≡ true → KindIs 2 19 Identifier w k
-  yes k t e = let r = within-is 2 19 k t in is-kind 2 19 Identifier w k (r .0) (r .1) e
+  yes : (k : ℕ) → T (within 2 19 k) → same (fixedOf k) w ≡ true → KindIs 2 19 IDENT w k
+  yes k t e = let r = within-is 2 19 k t in is-kind 2 19 IDENT w k (r .0) (r .1) e
 
-  no : (n : ℕ) (l : List ℕ) → T (below 51 (listed (λ m. eqb m n) l)) → length w ≡ n → NoneOf w l → KindIs 2 19 Identifier w Identifier
+  no : (n : ℕ) (l : List ℕ) → T (below 51 (listed (λ m. eqb m n) l)) → length w ≡ n → NoneOf w l → KindIs 2 19 IDENT w IDENT
   no n l t h f = no-keyword w (λ m. eqb m n) l t (T-of (eq-eqb (length w) n h)) f
 
-  other : (length w ≡ 2 → ⊥) → (length w ≡ 3 → ⊥) → (length w ≡ 4 → ⊥) → (length w ≡ 5 → ⊥) → (length w ≡ 6 → ⊥) → (length w ≡ 8 → ⊥) → KindIs 2 19 Identifier w Identifier
+  other : (length w ≡ 2 → ⊥) → (length w ≡ 3 → ⊥) → (length w ≡ 4 → ⊥) → (length w ≡ 5 → ⊥) → (length w ≡ 6 → ⊥) → (length w ≡ 8 → ⊥) → KindIs 2 19 IDENT w IDENT
   unfolding fixedOf texts listed member
   other a b c d e f =
       no-keyword w (λ m. not (member m (2 ∷ 3 ∷ 4 ∷ 5 ∷ 6 ∷ 8 ∷ []))) [] tt

@@ -1,15 +1,14 @@
--- The rest holds every entry that is left. The measure is their number.
-use Prim.Native.Nat.{_*_, _≤_}
+-- The measure is how many entries are left.
+use Prim.Native.Nat.{_-_}
 use borrow.Author.Needs.{needs}
-use lib.ListN.{length}
 use Rattle.lexer_cases.proofs.lexing.print_tokens.Statement.{statement}
 use Rattle.lexer_cases.proofs.lexing.print_tokens.Tie as tie
 
 abbrev Inv-loop : tie.InvT-loop
-Inv-loop table used rest₀ left₀ rest left = left * 16 ≤ length rest
+Inv-loop table used i₀ i = Unit {0}
 
 abbrev μ-loop : tie.MeasureT-loop
-μ-loop table used rest₀ left₀ rest left = left
+μ-loop table used i₀ i = used - i
 
 pub print-tokens-spec : {M : Type 1} → statement M
 print-tokens-spec =
@@ -19,9 +18,6 @@ print-tokens-spec =
     μ-loop
     (λ c. search needs)
     (λ c κs. search needs)
-    (λ c. search needs)
-    (λ c. search needs)
-    (λ c. search needs)
     (λ c. search needs)
     (λ c. search needs)
     (λ c. search needs)

@@ -1,0 +1,96 @@
+-- 01's texts on the edge that are held to the grammar, in one table: what it derives of each, or that it derives nothing. Assumes nothing.
+use Prim.Native.Nat.{ℕ}
+use Prim.Native.String.{String}
+use mathlib.Core.Path.{_≡_, refl}
+use mathlib.Core.List.{List, [], _∷_, map}
+use Rattle.patterns.specs.Bytes.{bytes, same, starts}
+use Rattle.tables.specs.TokenKinds.{NUMBER, CONST, ELSE, FN, IF, LET, IDENT, ANDAND, OROR, EQ, LPAREN, RPAREN, LBRACE, RBRACE, LBRACK, RBRACK, SEMI}
+use Rattle.grammar.specs.Kinds.{Name, TypeTuple, Literal, Identifier, Binary, Call, Const, If, ExprStmt, Block, Function}
+use Rattle.grammar.specs.Derive.{Token, Node, Input, typeName, part, yields, leave, agree}
+use Rattle.grammar.specs.Grammar.{body, Tree}
+use Rattle.grammar.proofs.Eval.{eval}
+use Rattle.grammar.proofs.Verdict.{Verdict, tree, refused, unknown, judge, accepted, not-derived}
+
+-- a token, a numeral and a node
+abbrev t : ℕ → ℕ → ℕ → Token
+t k a b = record { kind = k; suffix = 0; start = a; end = b; value = 0 }
+
+abbrev n : ℕ → ℕ → ℕ → ℕ → Token
+n a b v f = record { kind = NUMBER; suffix = f; start = a; end = b; value = v }
+
+abbrev o : ℕ → ℕ → ℕ → ℕ → ℕ → Node
+o k a b c v = record { kind = k; start = a; end = b; children = c; value = v }
+
+pub data Row : Type 0 where
+  row : String → List Token → Verdict → Row
+
+abbrev input : String → List Token → Input
+input w ts = record { text = bytes w; tokens = ts }
+
+-- the grammar derives this tree of the text, with these literals of unknown suffix; or it derives none
+abbrev pub Meets : Row → Type 0
+Meets (row w ts (tree ns ds)) = Tree (input w ts) ns ds
+Meets (row w ts refused) = (ns : List Node) (ds : List Token) → Tree (input w ts) ns ds → ⊥
+Meets (row w ts unknown) = Unit {0}
+
+abbrev pub All : List Row → Type 0
+All [] = Unit {0}
+All (r ∷ l) = Meets r × All l
+
+-- the last row: an optional part, as an `else`, is greedy
+unfoldable pub rows : List Row
+rows =
+    row ""
+    ([])
+    (tree [] [])
+    ∷ row "const A = 1;"
+    (t CONST 0 5 ∷ t IDENT 6 7 ∷ t EQ 8 9 ∷ n 10 11 1 0 ∷ t SEMI 11 12 ∷ [])
+    (tree (o Name 6 7 0 0 ∷ o Literal 10 11 0 1 ∷ o Const 0 12 2 0 ∷ []) [])
+    ∷ row "const A = f( );"
+    (t CONST 0 5 ∷ t IDENT 6 7 ∷ t EQ 8 9 ∷ t IDENT 10 11 ∷ t LPAREN 11 12 ∷ t RPAREN 13 14 ∷ t SEMI 14 15 ∷ [])
+    (tree (o Name 6 7 0 0 ∷ o Identifier 10 11 0 0 ∷ o Call 10 13 1 0 ∷ o Const 0 15 2 0 ∷ []) [])
+    ∷ row "fn f() { a || b && c; }"
+    (t FN 0 2 ∷ t IDENT 3 4 ∷ t LPAREN 4 5 ∷ t RPAREN 5 6 ∷ t LBRACE 7 8 ∷ t IDENT 9 10 ∷ t OROR 11 13 ∷ t IDENT 14 15 ∷ t ANDAND 16 18 ∷ t IDENT 19 20 ∷ t SEMI 20 21 ∷ t RBRACE 22 23 ∷ [])
+    (tree (o Name 3 4 0 0 ∷ o TypeTuple 0 0 0 0 ∷ o Identifier 9 10 0 0 ∷ o Identifier 14 15 0 0 ∷ o Binary 9 15 2 12 ∷ o Identifier 19 20 0 0 ∷ o Binary 9 20 2 11 ∷ o ExprStmt 9 21 1 0 ∷ o Function 0 23 3 0 ∷ []) [])
+    ∷ row "fn f() { if (x) {} }"
+    (t FN 0 2 ∷ t IDENT 3 4 ∷ t LPAREN 4 5 ∷ t RPAREN 5 6 ∷ t LBRACE 7 8 ∷ t IF 9 11 ∷ t LPAREN 12 13 ∷ t IDENT 13 14 ∷ t RPAREN 14 15 ∷ t LBRACE 16 17 ∷ t RBRACE 17 18 ∷ t RBRACE 19 20 ∷ [])
+    (tree (o Name 3 4 0 0 ∷ o TypeTuple 0 0 0 0 ∷ o Identifier 13 14 0 0 ∷ o Block 16 18 0 0 ∷ o If 9 18 2 0 ∷ o Function 0 20 3 0 ∷ []) [])
+    ∷ row "fn f() { 12u8; }"
+    (t FN 0 2 ∷ t IDENT 3 4 ∷ t LPAREN 4 5 ∷ t RPAREN 5 6 ∷ t LBRACE 7 8 ∷ n 9 13 12 3 ∷ t SEMI 13 14 ∷ t RBRACE 15 16 ∷ [])
+    (tree (o Name 3 4 0 0 ∷ o TypeTuple 0 0 0 0 ∷ o Literal 9 13 0 12 ∷ o ExprStmt 9 14 1 0 ∷ o Function 0 16 3 0 ∷ []) (n 9 13 12 3 ∷ []))
+    ∷ row "fn f() { if x {} }"
+    (t FN 0 2 ∷ t IDENT 3 4 ∷ t LPAREN 4 5 ∷ t RPAREN 5 6 ∷ t LBRACE 7 8 ∷ t IF 9 11 ∷ t IDENT 12 13 ∷ t LBRACE 14 15 ∷ t RBRACE 15 16 ∷ t RBRACE 17 18 ∷ [])
+    refused
+    ∷ row "fn f() { let (a) = b; }"
+    (t FN 0 2 ∷ t IDENT 3 4 ∷ t LPAREN 4 5 ∷ t RPAREN 5 6 ∷ t LBRACE 7 8 ∷ t LET 9 12 ∷ t LPAREN 13 14 ∷ t IDENT 14 15 ∷ t RPAREN 15 16 ∷ t EQ 17 18 ∷ t IDENT 19 20 ∷ t SEMI 20 21 ∷ t RBRACE 22 23 ∷ [])
+    refused
+    ∷ row "fn f() { [1; 3u32]; }"
+    (t FN 0 2 ∷ t IDENT 3 4 ∷ t LPAREN 4 5 ∷ t RPAREN 5 6 ∷ t LBRACE 7 8 ∷ t LBRACK 9 10 ∷ n 10 11 1 0 ∷ t SEMI 11 12 ∷ n 13 17 3 2 ∷ t RBRACK 17 18 ∷ t SEMI 18 19 ∷ t RBRACE 20 21 ∷ [])
+    refused
+    ∷ row "fn f() { if (a) if (b) {} else {} }"
+    (t FN 0 2 ∷ t IDENT 3 4 ∷ t LPAREN 4 5 ∷ t RPAREN 5 6 ∷ t LBRACE 7 8 ∷ t IF 9 11 ∷ t LPAREN 12 13 ∷ t IDENT 13 14 ∷ t RPAREN 14 15 ∷ t IF 16 18 ∷ t LPAREN 19 20 ∷ t IDENT 20 21 ∷ t RPAREN 21 22 ∷ t LBRACE 23 24 ∷ t RBRACE 24 25 ∷ t ELSE 26 30 ∷ t LBRACE 31 32 ∷ t RBRACE 32 33 ∷ t RBRACE 34 35 ∷ [])
+    (tree (o Name 3 4 0 0 ∷ o TypeTuple 0 0 0 0 ∷ o Identifier 13 14 0 0 ∷ o Identifier 20 21 0 0 ∷ o Block 23 25 0 0 ∷ o Block 31 33 0 0 ∷ o If 16 33 3 0 ∷ o If 9 33 2 0 ∷ o Function 0 35 3 0 ∷ []) [])
+    ∷ []
+
+judged : Row → Verdict
+judged (row w ts v) = judge 300 (input w ts)
+
+expected : Row → Verdict
+expected (row w ts v) = v
+
+computed : map judged rows ≡ map expected rows
+unfolding judged expected rows judge eval body part yields leave agree typeName same starts
+computed = refl
+
+meets : (w : String) (ts : List Token) (v : Verdict) → judge 300 (input w ts) ≡ v → Meets (row w ts v)
+meets w ts (tree ns ds) e = accepted (input w ts) 300 e
+meets w ts refused e = λ ns ds a. not-derived (input w ts) 300 e a
+meets w ts unknown e = tt
+
+all : (l : List Row) → map judged l ≡ map expected l → All l
+unfolding judged expected
+all [] e = tt
+all (row w ts v ∷ l) e = (meets w ts v (cc), all l (cc))
+
+pub edge : All rows
+edge = all rows computed

@@ -1,0 +1,12 @@
+pub mod Bodies
+pub mod Unique
+pub mod Progress
+pub mod Total
+pub mod Whole
+pub mod Suffix
+pub mod Forest
+pub mod Eval
+pub mod Verdict
+pub mod Edge
+pub mod Scan
+pub mod Nest
