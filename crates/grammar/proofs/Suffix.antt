@@ -173,7 +173,7 @@ take-all : (ts : List Token) → L.take (length ts) ts ≡ ts
 take-all [] = refl
 take-all (t ∷ ts) = ap (t ∷_) (take-all ts)
 
-pub exactly : {x : Input} {ns : List Node} {ds : List Token} → Tree x ns ds → ds ≡ strangers (x .tokens)
+pub unknown-suffixes : {x : Input} {ns : List Node} {ds : List Token} → Tree x ns ds → ds ≡ strangers (x .tokens)
 unfolding tidy
-exactly {x} a =
+unknown-suffixes {x} a =
     sym (a .strange) ∙ unknown-of (fairly tidy-body tt refl (a .derived)) ∙ ap (odds x) (a .all) ∙ ap strangers (take-all (x .tokens))

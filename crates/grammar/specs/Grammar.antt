@@ -124,7 +124,7 @@ parenTail = tok RPAREN & whole Paren
 abbrev pub tupleTail : G
 tupleTail = many (tok COMMA & rule expr) & opt (tok COMMA) & tok RPAREN & whole Tuple
 
--- paren_or_tuple: `()` is the empty tuple; after the first expression `)` or `,` decides
+-- paren_or_tuple: `()` is the empty tuple; after the first expression `)` or `,` decides, and `)` comes first here, where nothing looks ahead
 abbrev pub parenOrTuple : G
 parenOrTuple = tok LPAREN & ((tok RPAREN & whole Tuple) or (rule expr & (parenTail or tupleTail)))
 
