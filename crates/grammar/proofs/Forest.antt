@@ -1,243 +1,184 @@
--- Every rule leaves just one part, so the nodes derived are a forest in which each node holds as many trees before it as it has children.
+-- Every rule leaves just one part, and adds the nodes of just one tree: so the nodes of a text are those of exactly one list of trees.
 -- Assumes nothing.
-use Prim.Native.Nat.{ℕ, zero, suc, _+_}
-use mathlib.Core.Path.{_≡_, refl, sym, subst, ap, _∙_}
+use Prim.Native.Nat.{ℕ, suc, _<_}
+use mathlib.Core.Path.{_≡_, refl, sym, subst, ap, ap₂, _∙_}
 use mathlib.Core.Bool.{Bool, true, false, cond}
-use mathlib.Core.List.{List, [], _∷_, _++_}
+use mathlib.Core.List.{List, [], _∷_, _++_, append-assoc, append-nil}
 use native.Mathlib.Omega.{arith}
 use lib.Dec.{eqb}
 use borrow.Author.Tests.{eqb-true}
 use Rattle.grammar.specs.Derive.{Token, Node, Input, token, R, Act, skip, leaf, named, literal, count, index, mark, Step, take, close, tick, alone, done}
-use Rattle.grammar.specs.Derive.{type, alloc, pattern, expr, stmt, unary, initLet, initAction, forStep, param, unit, item, level}
-use Rattle.grammar.specs.Derive.{G, step, _&_, _or_, many, both, rule, S, Out, got, none, part, next, act, yields, agree, enter, leave, begin}
+use Rattle.grammar.specs.Derive.{G, step, _&_, _or_, many, both, rule, S, Out, got, Frame, part, next, act, yields, leave}
 use Rattle.grammar.specs.Derive.{Derives, stepped, and-not, and-then, or-first, or-else, no-more, one-more, agreed, ruled}
-use Rattle.grammar.specs.Grammar.{body, file, Tree}
-use Rattle.patterns.proofs.Tests.{and-l, and-r}
+use Rattle.grammar.specs.Grammar.{body, Tree}
+use Rattle.patterns.proofs.Tests.{of-T}
+use Rattle.grammar.proofs.Bodies.{every}
+use Rattle.grammar.proofs.On.{On, off, on, on-of, on-map, on-if, on-agree, on-leave, left}
+use Rattle.grammar.proofs.Trees.{Branch, node, Trees, no-trees, _then_, root, nodes, flatten, number, Fits, fits-none, fits-then, fits-more, Decodes, one-decoding}
 
--- what is known of the number of parts
-data Parts : Type 0 where
-  empty single various : Parts
-
-data Has : Parts → ℕ → Type 0 where
-  has-none : Has empty 0
-  has-one : Has single 1
-  has-some : {n : ℕ} → Has various n
-
-data HasOut (d : Parts) : Out → Type 0 where
-  no-out : HasOut d none
-  out : {t : S} → Has d (t .frame .parts) → HasOut d (got t)
-
-abbrev bump : Parts → Parts
-bump empty = single
-bump single = various
-bump various = various
-
-abbrev join : Parts → Parts → Parts
-join empty empty = empty
-join empty single = various
-join empty various = various
-join single empty = various
-join single single = single
-join single various = various
-join various e = various
-
-abbrev byAct : Act → Parts → Parts
+-- the number of parts as far as it is known: a number above 1 says nothing
+abbrev byAct : Act → ℕ → ℕ
 byAct skip d = d
-byAct (leaf k v) d = bump d
-byAct named d = bump d
-byAct literal d = bump d
-byAct count d = bump d
+byAct (leaf k v) d = suc d
+byAct named d = suc d
+byAct literal d = suc d
+byAct count d = suc d
 byAct index d = d
 byAct (mark m) d = d
 
-abbrev flow : G → Parts → Parts
+abbrev flow : G → ℕ → ℕ
 flow (step (take k a)) d = byAct a d
-flow (step (close k a b)) d = single
+flow (step (close k a b)) d = 1
 flow (step tick) d = d
-flow (step alone) d = single
+flow (step alone) d = 1
 flow (step done) d = d
 flow (g & h) d = flow h (flow g d)
-flow (g or h) d = join (flow g d) (flow h d)
-flow (many g) d = join d (flow g d)
+flow (g or h) d = cond (eqb (flow g d) (flow h d)) (flow g d) 2
+flow (many g) d = cond (eqb d (flow g d)) d 2
 flow (both g h) d = flow h d
-flow (rule r) d = bump d
+flow (rule r) d = suc d
 
-flow-body : (r : R) → flow (body r) empty ≡ single
+flow-body : (r : R) → flow (body r) 0 ≡ 1
 unfolding body
-flow-body type = refl
-flow-body alloc = refl
-flow-body pattern = refl
-flow-body expr = refl
-flow-body stmt = refl
-flow-body unary = refl
-flow-body initLet = refl
-flow-body initAction = refl
-flow-body forStep = refl
-flow-body param = refl
-flow-body unit = refl
-flow-body item = refl
-flow-body (level zero) = refl
-flow-body (level (suc zero)) = refl
-flow-body (level (suc (suc zero))) = refl
-flow-body (level (suc (suc (suc zero)))) = refl
-flow-body (level (suc (suc (suc (suc zero))))) = refl
-flow-body (level (suc (suc (suc (suc (suc n)))))) = refl
+flow-body r = eqb-true (flow (body r) 0) 1 (of-T (eqb (flow (body r) 0) 1) (every (λ r. eqb (flow (body r) 0) 1) (λ n. tt) r))
 
-bumped : {d : Parts} {n : ℕ} → Has d n → Has (bump d) (suc n)
-bumped has-none = has-one
-bumped has-one = has-some
-bumped has-some = has-some
+-- where trees start and end, as a frame has it
+abbrev front : Trees → ℕ
+front no-trees = 0
+front (ts then t) = cond (eqb (number ts) 0) (root t .start) (front ts)
 
-any-out : (o : Out) → HasOut various o
-any-out none = no-out
-any-out (got t) = out has-some
+abbrev back : Trees → ℕ
+back no-trees = 0
+back (ts then t) = root t .end
 
-join-left : {o : Out} (d e : Parts) → HasOut d o → HasOut (join d e) o
-join-left {o} empty empty h = h
-join-left {o} empty single h = any-out o
-join-left {o} empty various h = any-out o
-join-left {o} single empty h = any-out o
-join-left {o} single single h = h
-join-left {o} single various h = any-out o
-join-left {o} various e h = any-out o
+-- the nodes ms are ns and then those of p trees, from a to b; if d is below 2, there are d
+record Forest (d : ℕ) (ns ms : List Node) (p a b : ℕ) : Type 0 where
+  trees : Trees
+  fits : Fits trees
+  these : ms ≡ ns ++ flatten trees
+  parts : p ≡ number trees
+  from : a ≡ front trees
+  to : b ≡ back trees
+  known : d < 2 → p ≡ d
 
-join-right : {o : Out} (d e : Parts) → HasOut e o → HasOut (join d e) o
-join-right {o} empty empty h = h
-join-right {o} empty single h = any-out o
-join-right {o} empty various h = any-out o
-join-right {o} single empty h = any-out o
-join-right {o} single single h = h
-join-right {o} single various h = any-out o
-join-right {o} various e h = any-out o
+abbrev At : ℕ → List Node → S → Type 0
+At d ns s = Forest d ns (s .nodes) (s .frame .parts) (s .frame .from) (s .frame .to)
 
--- a round that keeps what is known, or nothing is known after it
-round : {o : Out} {n : ℕ} (d e : Parts) → Has e n → (Has d n → HasOut (join d e) o) → HasOut (join d e) o
-round {o} empty empty h f = f h
-round {o} empty single h f = any-out o
-round {o} empty various h f = any-out o
-round {o} single empty h f = any-out o
-round {o} single single h f = f h
-round {o} single various h f = any-out o
-round {o} various e h f = any-out o
+-- the nodes ms are ns and those of one tree, and the frame g is f with one part more, of that tree's span
+pub data Grown (ns : List Node) (f : Frame) (ms : List Node) (g : Frame) : Type 0 where
+  grown : (a : Branch) → Fits (no-trees then a) → ms ≡ ns ++ nodes a → g ≡ part (root a .start) (root a .end) f → Grown ns f ms g
 
-has-of : {d : Parts} {t : S} → HasOut d (got t) → Has d (t .frame .parts)
-has-of (out h) = h
+-- what a rule makes of s
+abbrev pub Grows : S → S → Type 0
+Grows s t = Grown (s .nodes) (s .frame) (t .nodes) (t .frame)
 
-has-pick : {d : Parts} {o : Out} (b : Bool) → (b ≡ true → HasOut d o) → HasOut d (cond b o none)
-has-pick true f = f refl
-has-pick false f = no-out
+bare : (ns : List Node) → Forest 0 ns ns 0 0 0
+bare ns = record { trees = no-trees; fits = fits-none; these = sym (append-nil ns); parts = refl; from = refl; to = refl; known = λ l. refl }
 
-has-act : {d : Parts} (x : Input) (a : Act) (t : Token) (s : S) → Has d (s .frame .parts) → HasOut (byAct a d) (act x a t s)
+treed : {ns ms ls : List Node} {d p a b : ℕ} (t : Branch) → Fits (no-trees then t) → ls ≡ ms ++ nodes t → Forest d ns ms p a b → Forest (suc d) ns ls (suc p) (cond (eqb p 0) (root t .start) a) (root t .end)
+treed t h e f =
+    record {
+      trees = f .trees then t;
+      fits = fits-more (f .fits) h;
+      these = e ∙ rw (f .these, append-assoc);
+      parts = ap suc (f .parts);
+      from = cc;
+      to = refl;
+      known = λ l. ap suc (f .known (omega arith));
+    }
+
+leafed : {ns ms : List Node} {d p a b : ℕ} (n : Node) → n .children ≡ 0 → Forest d ns ms p a b → Forest (suc d) ns (ms ++ (n ∷ [])) (suc p) (cond (eqb p 0) (n .start) a) (n .end)
+leafed n e f = treed (node n no-trees) (fits-then fits-none fits-none e) refl f
+
+closed : {ns ms : List Node} {d p a b : ℕ} (n : Node) → n .children ≡ p → Forest d ns ms p a b → Forest 1 ns (ms ++ (n ∷ [])) 1 (n .start) (n .end)
+closed n e f =
+    record {
+      trees = no-trees then node n (f .trees);
+      fits = fits-then fits-none (f .fits) (e ∙ f .parts);
+      these = rw (f .these, append-assoc);
+      parts = refl;
+      from = refl;
+      to = refl;
+      known = λ l. refl;
+    }
+
+knowing : {ns ms : List Node} {d e p a b : ℕ} → (e < 2 → p ≡ e) → Forest d ns ms p a b → Forest e ns ms p a b
+knowing h f = record { trees = f .trees; fits = f .fits; these = f .these; parts = f .parts; from = f .from; to = f .to; known = h }
+
+vague : {d : ℕ} {ns : List Node} {o : Out} → On (At d ns) o → On (At 2 ns) o
+vague f = on-map (λ t f. knowing (λ l. absurd (omega arith)) f) f
+
+widened : {d e : ℕ} {ns : List Node} {o : Out} (b : Bool) → (b ≡ true → d ≡ e) → On (At e ns) o → On (At (cond b d 2) ns) o
+widened true h f = rw (h refl) f
+widened false h f = vague f
+
+stand-act : {d : ℕ} {ns : List Node} (x : Input) (a : Act) (t : Token) (s : S) → At d ns s → On (At (byAct a d) ns) (act x a t s)
 unfolding part
-has-act x skip t s h = out h
-has-act x (leaf k v) t s h = out (bumped h)
-has-act x named t s h = out (bumped h)
-has-act x literal t s h = out (bumped h)
-has-act x count t s h = has-pick (eqb (t .suffix) 0) (λ e. out (bumped h))
-has-act x index t s h = has-pick (eqb (t .suffix) 0) (λ e. out h)
-has-act x (mark m) t s h = out h
+stand-act x skip t s f = on f
+stand-act x (leaf k v) t s f = on (leafed _ refl f)
+stand-act x named t s f = on (leafed _ refl f)
+stand-act x literal t s f = on (leafed _ refl f)
+stand-act x count t s f = on-if (eqb (t .suffix) 0) (λ e. on (leafed _ refl f))
+stand-act x index t s f = on-if (eqb (t .suffix) 0) (λ e. on f)
+stand-act x (mark m) t s f = on f
 
-has-run : {d : Parts} (x : Input) (p : Step) (s : S) → Has d (s .frame .parts) → HasOut (flow (step p) d) (yields x p s)
+stand-run : {d : ℕ} {ns : List Node} (x : Input) (p : Step) (s : S) → At d ns s → On (At (flow (step p) d) ns) (yields x p s)
 unfolding yields
-has-run x (take k a) s h = has-pick (eqb (token x (s .at) .kind) k) (λ e. has-act x a (token x (s .at)) (next s) h)
-has-run x (close k a b) s h = out has-one
-has-run x tick s h = out h
-has-run x alone s h =
-    has-pick (eqb (s .frame .parts) 1) (λ e. out (subst (Has single) (sym (eqb-true (s .frame .parts) 1 e)) has-one))
-has-run x done s h = out h
+stand-run x (take k a) s f = on-if (eqb (token x (s .at) .kind) k) (λ e. stand-act x a (token x (s .at)) (next s) f)
+stand-run x (close k a b) s f = on (closed _ refl f)
+stand-run x tick s f = on f
+stand-run x alone s f = on-if (eqb (s .frame .parts) 1) (λ e. on (knowing (λ l. eqb-true (s .frame .parts) 1 e) f))
+stand-run x done s f = on f
 
-has-agree : {d : Parts} {q : Out} (o : Out) → HasOut d q → HasOut d (agree o q)
-unfolding agree
-has-agree (got a) no-out = no-out
-has-agree none no-out = no-out
-has-agree (got a) (out {t = b} h) = has-pick (eqb (a .at) (b .at)) (λ e. out h)
-has-agree none (out h) = no-out
+single : (ts : Trees) → number ts ≡ 1 → (a : Branch) × (ts ≡ no-trees then a)
+single no-trees e = absurd (omega arith)
+single (no-trees then a) e = (a, refl)
+single (ts then b then a) e = absurd (omega arith)
 
-has-leave : {d e : Parts} {o : Out} (s : S) → Has d (s .frame .parts) → HasOut e o → HasOut (bump d) (leave s o)
-unfolding leave part
-has-leave s h no-out = no-out
-has-leave s h (out k) = out (bumped h)
+stand-leave : {o : Out} (s : S) → On (At 1 (s .nodes)) o → On (Grows s) (leave s o)
+stand-leave s f = on-leave s alone-in f
+  where
+    alone-in : (t : S) → At 1 (s .nodes) t → Grows s (left s t)
+    alone-in t f =
+        let (a, e) = single (f .trees) (sym (f .parts) ∙ f .known (omega arith)) in
+        grown a (subst Fits e (f .fits)) (f .these ∙ ap (λ (ts : Trees). s .nodes ++ flatten ts) e) (ap₂ (λ (i j : ℕ). part i j (s .frame)) (f .from ∙ ap front e) (f .to ∙ ap back e))
 
-flows : {b : R → G} {x : Input} {g : G} {s : S} {o : Out} (d : Parts) → Has d (s .frame .parts) → Derives b x g s o → HasOut (flow g d) o
-flows {x = x} d h (stepped {p = p} {s = s}) = has-run x p s h
-flows d h (and-not a) = no-out
-flows d h (and-then {g = g} a c) = flows (flow g d) (has-of (flows d h a)) c
-flows d h (or-first {g = g} {h = k} a) = join-left (flow g d) (flow k d) (flows d h a)
-flows d h (or-else {g = g} {h = k} a c) = join-right (flow g d) (flow k d) (flows d h c)
-flows d h (no-more {g = g} a) = join-left d (flow g d) (out h)
-flows d h (one-more {g = g} a c) = round d (flow g d) (has-of (flows d h a)) (λ k. flows d k c)
-flows d h (agreed {o = o} a c) = has-agree o (flows d h c)
-flows {s = s} d h (ruled a) = has-leave s h (flows empty has-none a)
+stand-grows : {d : ℕ} {ns : List Node} {o : Out} (s : S) → At d ns s → On (Grows s) o → On (At (suc d) ns) o
+unfolding part
+stand-grows {d} {ns} s f g = on-map more g
+  where
+    more : (t : S) → Grows s t → At (suc d) ns t
+    more t (grown a h e p) = rw p (treed a h e f)
 
--- the nodes are k trees, one after the other, children first
-pub data Forest : List Node → ℕ → Type 0 where
-  bare : Forest [] 0
-  grown : {ns : List Node} (n : Node) {k : ℕ} → Forest ns (k + n .children) → Forest (ns ++ (n ∷ [])) (suc k)
+-- one round, and then the rest
+stand-round : {ns : List Node} {t : S} {o : Out} (g : G) (d : ℕ) (b : Bool) → eqb d (flow g d) ≡ b → On (At (flow g d) ns) (got t) → ((e : ℕ) → At e ns t → On (At (flow (many g) e) ns) o) → On (At (flow (many g) d) ns) o
+stand-round g d true e f k = k d (rw (eqb-true d (flow g d) e) (on-of f))
+stand-round g d false e f k = rw e (vague (k 2 (on-of (vague f))))
 
-data Stand (j : ℕ) : Out → Type 0 where
-  not-stand : Stand j none
-  stand : {t : S} → Forest (t .nodes) (j + t .frame .parts) → Stand j (got t)
+-- for any body whose rules leave one part
+module _ (b : R → G) (x : Input) (y : (r : R) → flow (b r) 0 ≡ 1) where
+  stands : {g : G} {s : S} {o : Out} {ns : List Node} (d : ℕ) → At d ns s → Derives b x g s o → On (At (flow g d) ns) o
+  stands d f (stepped {p = p} {s = s}) = stand-run x p s f
+  stands d f (and-not a) = off
+  stands d f (and-then {g = g} a c) = stands (flow g d) (on-of (stands d f a)) c
+  stands d f (or-first {g = g} {h = h} a) = widened (eqb (flow g d) (flow h d)) (λ e. refl) (stands d f a)
+  stands d f (or-else {g = g} {h = h} a c) = widened (eqb (flow g d) (flow h d)) (eqb-true (flow g d) (flow h d)) (stands d f c)
+  stands d f (no-more {g = g} a) = widened (eqb d (flow g d)) (λ e. refl) (on f)
+  stands d f (one-more {g = g} a c) = stand-round g d (eqb d (flow g d)) refl (stands d f a) (λ e k. stands e k c)
+  stands d f (agreed {o = o} a c) = on-agree o (stands d f c)
+  stands {s = s} d f (ruled {r = r} a) = stand-grows s f (stand-leave s (rw (y r) at (stands 0 (bare (s .nodes)) a)))
 
-fit : {ns : List Node} {i j : ℕ} → i ≡ j → Forest ns i → Forest ns j
-fit {ns} e f = subst (Forest ns) e f
+pub one-tree : {x : Input} {r : R} {s : S} {o : Out} → Derives body x (rule r) s o → On (Grows s) o
+one-tree {x} {s = s} (ruled {r = r} a) = stand-leave s (rw (flow-body r) at (stands body x flow-body 0 (bare (s .nodes)) a))
 
-stand-pick : {j : ℕ} {o : Out} (b : Bool) → Stand j o → Stand j (cond b o none)
-stand-pick true h = h
-stand-pick false h = not-stand
+-- the nodes of a text are those of exactly one list of trees
+pub record OneForest (ns : List Node) : Type 0 where
+  pub trees : Trees
+  pub decodes : Decodes ns trees
+  pub only : (ts : Trees) → Decodes ns ts → ts ≡ trees
 
-module _ (j : ℕ) (s : S) (f : Forest (s .nodes) (j + s .frame .parts)) where
-  leafed : (n : Node) → n .children ≡ 0 → Forest (s .nodes ++ (n ∷ [])) (j + suc (s .frame .parts))
-  leafed n e = fit (omega arith) (grown n (fit {j = (j + s .frame .parts) + n .children} (omega arith) f))
-
-  stand-act : (x : Input) (a : Act) (t : Token) → Stand j (act x a t s)
-  unfolding part
-  stand-act x skip t = stand f
-  stand-act x (leaf k v) t = stand (leafed _ refl)
-  stand-act x named t = stand (leafed _ refl)
-  stand-act x literal t = stand (leafed _ refl)
-  stand-act x count t = stand-pick (eqb (t .suffix) 0) (stand (leafed _ refl))
-  stand-act x index t = stand-pick (eqb (t .suffix) 0) (stand f)
-  stand-act x (mark m) t = stand f
-
-stand-run : {j : ℕ} (x : Input) (p : Step) (s : S) → Forest (s .nodes) (j + s .frame .parts) → Stand j (yields x p s)
-unfolding yields
-stand-run {j} x (take k a) s f = stand-pick (eqb (token x (s .at) .kind) k) (stand-act j (next s) f x a (token x (s .at)))
-stand-run {j} x (close k a b) s f = stand (fit {j = j + 1} (omega arith) (grown _ f))
-stand-run x tick s f = stand f
-stand-run x alone s f = stand-pick (eqb (s .frame .parts) 1) (stand f)
-stand-run x done s f = stand f
-
-stand-agree : {j : ℕ} {q : Out} (o : Out) → Stand j q → Stand j (agree o q)
-unfolding agree
-stand-agree (got a) not-stand = not-stand
-stand-agree none not-stand = not-stand
-stand-agree (got a) (stand {t = b} h) = stand-pick (eqb (a .at) (b .at)) (stand h)
-stand-agree none (stand h) = not-stand
-
-stand-of : {j : ℕ} {t : S} → Stand j (got t) → Forest (t .nodes) (j + t .frame .parts)
-stand-of (stand h) = h
-
-one-of : {n : ℕ} → Has single n → n ≡ 1
-one-of has-one = refl
-
-stand-leave : {j : ℕ} {o : Out} (s : S) → HasOut single o → Stand (j + s .frame .parts) o → Stand j (leave s o)
-unfolding leave part
-stand-leave s h not-stand = not-stand
-stand-leave {j} s (out h) (stand {t = t} f) = let e = one-of h in stand (fit {j = j + suc (s .frame .parts)} (omega arith) f)
-
-stands : {b : R → G} {x : Input} {g : G} {s : S} {o : Out} {j : ℕ} → ((r : R) → flow (b r) empty ≡ single) → Forest (s .nodes) (j + s .frame .parts) → Derives b x g s o → Stand j o
-stands {x = x} y f (stepped {p = p} {s = s}) = stand-run x p s f
-stands y f (and-not a) = not-stand
-stands y f (and-then a c) = stands y (stand-of (stands y f a)) c
-stands y f (or-first a) = stands y f a
-stands y f (or-else a c) = stands y f c
-stands y f (no-more a) = stand f
-stands y f (one-more a c) = stands y (stand-of (stands y f a)) c
-stands y f (agreed {o = o} a c) = stand-agree o (stands y f c)
-stands {s = s} {j = j} y f (ruled {r = r} {o = o} a) =
-    stand-leave s (subst (λ (d : Parts). HasOut d o) (y r) (flows empty has-none a)) (stands y (fit {j = (j + s .frame .parts) + 0} (omega arith) f) a)
-
--- the tree of a text: as many trees as it has items
-pub forest : {x : Input} {ns : List Node} {ds : List Token} (a : Tree x ns ds) → Forest ns (a .last .frame .parts)
-forest a =
-    subst (λ (l : List Node). Forest l (a .last .frame .parts)) (a .these) (fit (omega arith) (stand-of (stands {j = 0} flow-body (fit (omega arith) bare) (a .derived))))
+pub forest : {x : Input} {ns : List Node} {ds : List Token} → Tree x ns ds → OneForest ns
+forest {x} a =
+    let f = on-of (stands body x flow-body 0 (bare []) (a .derived)) in
+    let d : Decodes _ (f .trees) = record { fits = f .fits; same = sym (f .these) ∙ a .these } in
+    record { trees = f .trees; decodes = d; only = λ ts e. one-decoding e d }

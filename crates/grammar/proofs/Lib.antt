@@ -1,10 +1,14 @@
 pub mod Bodies
+pub mod On
 pub mod Unique
 pub mod Progress
 pub mod Total
 pub mod Whole
 pub mod Suffix
+pub mod Trees
 pub mod Forest
+pub mod Levels
+pub mod Spans
 pub mod Eval
 pub mod Verdict
 pub mod Edge

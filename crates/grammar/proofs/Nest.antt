@@ -1,16 +1,16 @@
 -- The nest limit, computed: whether an attempt takes a token at nest above 64. And the place where reading stops.
 -- Assumes nothing.
-use Prim.Native.Nat.{ℕ, zero, suc, _+_, _<_}
-use mathlib.Core.Path.{_≡_, refl, sym, subst}
+use Prim.Native.Nat.{ℕ, zero, suc, _<_}
+use mathlib.Core.Path.{_≡_, refl, subst}
 use mathlib.Core.Bool.{Bool, true, false, _||_}
-use mathlib.Core.List.{List, [], _∷_, _++_}
+use mathlib.Core.List.{List, [], _∷_}
 use native.Mathlib.Omega.{arith}
-use lib.Dec.{ltb, eqb}
+use lib.Dec.{ltb}
 use borrow.Author.Tests.{ltb-true, ltb-false}
-use Rattle.grammar.specs.Derive.{Token, Input, S, Out, begin, part, yields, leave, agree, Takes}
+use Rattle.grammar.specs.Derive.{Token, Input, Out, begin, part, yields, leave, agree, Takes}
 use Rattle.grammar.specs.Grammar.{body, nests, file, Deep}
 use Rattle.grammar.proofs.Eval.{May, is, tired}
-use Rattle.grammar.proofs.Scan.{Mark, Seen, In, front, behind, scan, seen, all-right}
+use Rattle.grammar.proofs.Scan.{Mark, In, front, behind, scan, seen, all-right}
 
 abbrev high : List Mark → Bool
 high [] = false

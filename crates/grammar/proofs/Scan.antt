@@ -1,7 +1,7 @@
 -- Which tokens the attempts take, and at which nest, computed with fuel: just those that are listed.
 -- Assumes nothing.
 use Prim.Native.Nat.{ℕ, zero, suc, _+_}
-use mathlib.Core.Path.{_≡_, refl, sym, ap, subst, _∙_}
+use mathlib.Core.Path.{_≡_, refl, subst}
 use mathlib.Core.Bool.{Bool, true, false, cond}
 use mathlib.Core.List.{List, [], _∷_, _++_}
 use lib.Dec.{eqb}
@@ -12,7 +12,6 @@ use Rattle.grammar.specs.Derive.{Derives, stepped, and-not, and-then, or
 use Rattle.grammar.specs.Derive.{Takes, here, and-left, and-right, or-left, or-right, now, later, both-first, inside}
 use Rattle.grammar.proofs.Unique.{unique, apart, same}
 use Rattle.grammar.proofs.Eval.{May, is, tired}
-use Rattle.patterns.proofs.Tests.{and-l, and-r}
 
 -- a token's place and the nest at which it is taken
 pub record Mark : Type 0 where

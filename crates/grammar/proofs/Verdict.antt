@@ -1,14 +1,14 @@
 -- What the grammar says of all tokens of a text, computed: a tree that it derives, or that it derives none.
 -- Assumes nothing.
-use Prim.Native.Nat.{ℕ, zero, suc}
+use Prim.Native.Nat.{ℕ}
 use mathlib.Core.Path.{_≡_, refl, sym, ap, _∙_}
 use mathlib.Core.Bool.{Bool, true, false, cond}
-use mathlib.Core.List.{List, [], _∷_}
+use mathlib.Core.List.{List}
 use lib.Dec.{eqb}
 use lib.ListN.{length}
 use borrow.Author.Tests.{eqb-true, eqb-false}
 use native.Mathlib.Omega.{arith}
-use Rattle.grammar.specs.Derive.{Token, Node, Input, S, Out, got, none, begin}
+use Rattle.grammar.specs.Derive.{Token, Node, Input, S, got, none, begin}
 use Rattle.grammar.specs.Grammar.{body, file, Tree}
 use Rattle.grammar.proofs.Unique.{unique, apart, same}
 use Rattle.grammar.proofs.Eval.{May, is, tired, eval, sound}
@@ -29,14 +29,14 @@ module _ (x : Input) where
   pub one-tree : {ns ms : List Node} {ds es : List Token} → Tree x ns ds → Tree x ms es → (ns ≡ ms) × (ds ≡ es)
   one-tree a b =
       let e = same (unique (a .derived) (b .derived)) in
-      (sym (a .these) ∙ ap (λ (s : S). s .nodes) e ∙ b .these, sym (a .strange) ∙ ap (λ (s : S). s .unknown) e ∙ b .strange)
+      (sym (a .these) ∙ ap (λ (s : S). s .nodes) e ∙ b .these, sym (a .unknowns) ∙ ap (λ (s : S). s .unknown) e ∙ b .unknowns)
 
   found : (fuel : ℕ) (ns : List Node) (ds : List Token) (m : May) → eval body x fuel file begin ≡ m → verdict (length (x .tokens)) m ≡ tree ns ds → Tree x ns ds
   found fuel ns ds (is (got s)) e v = go (eqb (s .at) (length (x .tokens))) refl v
     where
       go : (b : Bool) → eqb (s .at) (length (x .tokens)) ≡ b → cond b (tree (s .nodes) (s .unknown)) refused ≡ tree ns ds → Tree x ns ds
       go true q w =
-          record { last = s; derived = sound fuel e; all = eqb-true (s .at) (length (x .tokens)) q; these = cc; strange = cc }
+          record { last = s; derived = sound fuel e; all = eqb-true (s .at) (length (x .tokens)) q; these = cc; unknowns = cc }
       go false q w = absurd (let z : _≡_ {A = ℕ} 0 1 = cc in omega arith)
   found fuel ns ds (is none) e v = absurd (let z : _≡_ {A = ℕ} 0 1 = cc in omega arith)
   found fuel ns ds tired e v = absurd (let z : _≡_ {A = ℕ} 0 1 = cc in omega arith)

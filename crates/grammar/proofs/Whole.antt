@@ -1,15 +1,15 @@
 -- The grammar of Cairo-M: every rule but an absent return type takes a token, every round too, and from every state there is an outcome.
 -- Assumes nothing.
-use Prim.Native.Nat.{ℕ, zero, suc, _+_, _-_, _≤_, _<_}
+use Prim.Native.Nat.{ℕ, zero, suc, _-_, _<_}
 use mathlib.Core.Bool.{Bool, true, false}
-use mathlib.Core.Path.{_≡_}
 use native.Mathlib.Omega.{arith}
 use lib.Dec.{T}
 use lib.ListN.{length}
-use Rattle.grammar.specs.Derive.{Input, R, type, alloc, pattern, expr, stmt, unary, initLet, initAction, forStep, param, unit, item, level, G, rule, S, Out, got, Derives}
+use Rattle.grammar.specs.Derive.{Input, R, type, alloc, pattern, expr, stmt, unary, initLet, initAction, forStep, param, unit, item, level, G, rule, S, Out, Derives}
 use Rattle.grammar.specs.Grammar.{body, file}
 use Rattle.patterns.proofs.Tests.{implies, modus}
 use Rattle.grammar.proofs.Bodies.{every}
+use Rattle.grammar.proofs.On.{On}
 use Rattle.grammar.proofs.Progress.{eats, sane?, Sane, sane-of, eaten, Ate}
 use Rattle.grammar.proofs.Total.{Leads, Some, total}
 
@@ -70,7 +70,7 @@ unfolding body
 sane r = sane-of solid (body r) (every (λ r. sane? solid (body r)) (λ n. tt) r)
 
 -- whatever a rule but `unit` derives stands past a token
-pub rule-eats : {x : Input} {s : S} {o : Out} (r : R) → T (solid r) → Derives body x (rule r) s o → Ate (s .at) (length (x .tokens)) o
+pub rule-eats : {x : Input} {s : S} {o : Out} (r : R) → T (solid r) → Derives body x (rule r) s o → On (Ate (s .at) (length (x .tokens))) o
 rule-eats {x} r t d = eaten body x solid eating sane t tt d
 
 pub derives : (x : Input) (g : G) (s : S) → Sane solid g → Some body x g s
@@ -80,5 +80,5 @@ pub file-derives : (x : Input) (s : S) → Some body x file s
 file-derives x s = derives x file s (omega arith)
 
 -- and so does whatever a grammar that eats derives
-pub takes-one : {x : Input} {g : G} {s : S} {o : Out} → T (eats solid g) → T (sane? solid g) → Derives body x g s o → Ate (s .at) (length (x .tokens)) o
+pub takes-one : {x : Input} {g : G} {s : S} {o : Out} → T (eats solid g) → T (sane? solid g) → Derives body x g s o → On (Ate (s .at) (length (x .tokens))) o
 takes-one {x} {g} t z d = eaten body x solid eating sane t (sane-of solid g z) d

@@ -319,7 +319,7 @@ pub record Tree (x : Input) (nodes : List Node) (unknown : List Token) : Type 0 
   pub derived : Derives body x file begin (got last)
   pub all : last .at ≡ length (x .tokens)
   pub these : last .nodes ≡ nodes
-  pub strange : last .unknown ≡ unknown
+  pub unknowns : last .unknown ≡ unknown
 
 -- an attempt takes a token at nest above 64
 pub record Deep (x : Input) : Type 0 where
