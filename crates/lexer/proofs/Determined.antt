@@ -1,10 +1,10 @@
 -- A text has one list of tokens and one of errors, and lexing one answer. Assumes nothing.
 use mathlib.Core.Path.{_≡_, refl, sym, ap, ap₂, subst, _∙_}
-use mathlib.Core.List.{List, [], _∷_}
-use Prim.Native.Nat.{ℕ, _+_, _≤_, _<_}
+use mathlib.Core.List.{List}
+use Prim.Native.Nat.{ℕ, _+_, _≤_}
 use native.Mathlib.Omega.{arith}
 use lib.ListN.{length, take, drop, length-take}
-use Rattle.tables.specs.Tables.{Token, Diagnostic, tokenTable, diagnosticTable}
+use Rattle.tables.specs.Tables.{Token, Diagnostic}
 use Rattle.utf8.proofs.Laws.{begins-some, begins-size}
 use Rattle.numeral.specs.Numeral.{numeralOf}
 use Rattle.lexer.specs.Tokens.{Best, Spells}

@@ -7,7 +7,7 @@ use lib.ListN.{length}
 use borrow.Author.Tests.{lt-ltb, le-ltb}
 use Rattle.tables.specs.Tables.{Token, Diagnostic, cleared}
 use Rattle.tables.proofs.Laws.{cleared-all}
-use Rattle.lexer.specs.Answers.{Result, long, encoding, lexed, ResultIs, lexedOf, tokensOf, diagnosticsOf, LexedIs, answerOf, tokensAfter, AnswerIs, outcomeOf, tokenCountOf, diagnosticCountOf, EntryIs, zeros}
+use Rattle.lexer.specs.Answers.{Result, long, encoding, lexed, ResultIs, lexedOf, tokensOf, diagnosticsOf, LexedIs, answerOf, AnswerIs, outcomeOf, tokenCountOf, diagnosticCountOf, EntryIs, zeros}
 use Rattle.lexer.specs.declared.lexing.Lexed.{Lexed}
 use Rattle.lexer.specs.declared.lexing.Lexed.the-variants as Lexed
 use Rattle.lexer.specs.declared.entry.Answer.{Answer}

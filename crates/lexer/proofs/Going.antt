@@ -1,22 +1,20 @@
 -- One step through a text, and how far the way has come: the loop's invariant and its turns. Assumes nothing.
-use mathlib.Core.Path.{_≡_, refl, sym, ap, ap₂, subst, subst₂, _∙_}
+use mathlib.Core.Path.{_≡_, refl, sym, ap, ap₂, subst, _∙_}
 use mathlib.Core.List.{List, [], _∷_, _++_, append-assoc, append-nil}
-use Prim.Native.Nat.{ℕ, zero, suc, _+_, _-_, _≤_, _<_, zero-le}
+use Prim.Native.Nat.{ℕ, zero, suc, _+_, _≤_, _<_, zero-le}
 use native.Mathlib.Omega.{arith}
 use lib.Dec.{lit<}
-use lib.ListN.{length, take, drop, replicate, length-append, length-take, length-drop, drop-of-length-le}
+use lib.ListN.{length, take, drop, length-append, length-drop, drop-of-length-le}
 use lib.Seq.{drop-drop}
-use Rattle.patterns.proofs.Runs.{rest-is}
-use Rattle.tables.specs.Tables.{Token, Diagnostic, encodeToken, encodeDiagnostic, stored, kept, cleared, tokenTable, diagnosticTable}
+use Rattle.tables.specs.Tables.{Token, Diagnostic, encodeToken, encodeDiagnostic, stored, kept, cleared}
 use Rattle.tables.proofs.Laws.{laid, laid-length, laid-none, laid-more, laid-kept, token-size, diagnostic-size, cleared-all}
-use Rattle.utf8.specs.Utf8.{Utf8, Rest}
-use Rattle.utf8.proofs.Laws.{begins-some, rest-none, rest-char, rest-more, rest-end}
+use Rattle.utf8.specs.Utf8.{Rest}
+use Rattle.utf8.proofs.Laws.{rest-none, rest-char, rest-more, rest-end}
 use Rattle.numeral.specs.Numeral.{numeralOf}
 use Rattle.numeral.specs.declared.NumberLiteral.{NumberLiteral}
 use Rattle.numeral.specs.declared.NumberLiteral.the-variants as NumberLiteral
-use Rattle.lexer.specs.Tokens.{Best}
 use Rattle.lexer.specs.Lexes.{Item, skipped, token, error, itemOf, Step, matched, strange, tokens, errors, Lexes, done, step}
-use Rattle.lexer.specs.Answers.{Result, long, encoding, lexed, ResultIs, too-long, not-utf8, lexes, LexedIs, zeros}
+use Rattle.lexer.specs.Answers.{long, encoding, lexed, too-long, not-utf8, lexes, LexedIs, zeros}
 use Rattle.lexer.specs.Scans.{Scanned, Stepped}
 use Rattle.lexer.specs.declared.scan.Found.{Found}
 use Rattle.lexer.specs.declared.scan.Found.the-variants as Found

@@ -1,6 +1,6 @@
 -- The longest match from a place, by the class of the first byte. Assumes nothing.
 use mathlib.Core.Path.{_≡_, refl, sym, ap, subst, _∙_}
-use mathlib.Core.Bool.{Bool, true, false, not}
+use mathlib.Core.Bool.{Bool, true}
 use mathlib.Core.Logic.{_⊎_, inl, inr, ⊎-elim}
 use mathlib.Core.List.{List, [], _∷_}
 use Prim.Native.Nat.{ℕ, suc, zero, _+_, _≤_, _<_, zero-le}
@@ -8,11 +8,10 @@ use native.Mathlib.Omega.{arith}
 use native.Mathlib.Decide.{ℕ-discrete}
 use lib.Dec.{lit<}
 use lib.ListN.{length, take, drop, getD, length-take, length-drop, drop-of-length-le}
-use lib.Seq.{getD-take, take-nil, take-length}
+use lib.Seq.{getD-take, take-nil}
 use Rattle.patterns.specs.Bytes.{bytes, in-set, white, letter, digit, word, run}
 use Rattle.patterns.specs.Patterns.{All, Name}
 use Rattle.patterns.proofs.Runs.{run-within, run-all, run-longest, run-some, all-head, letter-word, name-word, name-here}
-use Rattle.numeral.specs.Spelling.{Spelling}
 use Rattle.numeral.proofs.Spellings.{spelling-word, spelling-head, spelling-some, spelling-here}
 use Rattle.tables.specs.TokenKinds.{IDENT}
 use Rattle.lexer.specs.Kinds.{fixedOf}

@@ -3,21 +3,20 @@ use mathlib.Core.Path.{_≡_, refl, sym, ap, subst, _∙_}
 use mathlib.Core.Bool.{Bool, true, false, not, false≢true}
 use mathlib.Core.Logic.{_⊎_, inl, inr, ⊎-elim}
 use mathlib.Core.List.{List, [], _∷_}
-use Prim.Native.Nat.{ℕ, zero, suc, _+_, _-_, _≤_, _<_, zero-le}
+use Prim.Native.Nat.{ℕ, zero, suc, _+_, _≤_, _<_}
 use native.Mathlib.Nat.{add-zero}
 use native.Mathlib.Omega.{arith}
-use native.Mathlib.Decide.{decLt, ℕ-discrete}
 use lib.Dec.{T, leb, ltb, leb→le}
 use lib.ListN.{length, take, drop, getD, length-take, length-drop, List·getD-eq-default}
 use lib.Seq.{getD-drop, take-all}
 use borrow.Author.Tests.{eq-eqb, ne-eqb, le-leb, lt-leb, lt-ltb, ltb-true}
-use Rattle.patterns.specs.Bytes.{within, Set, in-set, white, letter, digit, word, run}
+use Rattle.patterns.specs.Bytes.{within, Set, in-set, white, word, run}
 use Rattle.patterns.specs.Patterns.{All}
 use Rattle.patterns.proofs.Tests.{T-of, of-T, or-cases, implies}
 use Rattle.patterns.proofs.Table.{below, small, within-is, within-of, subset}
-use Rattle.patterns.proofs.Runs.{Passed, passed-none, passed-more, passed-stop, passed-end, rest-is, run-within, run-all, all-imp}
-use Rattle.utf8.specs.Utf8.{Utf8, Begins, FirstChar, Rest, begins, nothing}
-use Rattle.utf8.proofs.Laws.{begins-some, begins-high, rest-none, rest-char, rest-ascii, rest-more, rest-end, rest-stop, next-ascii}
+use Rattle.patterns.proofs.Runs.{Passed, passed-none, passed-more, passed-stop, passed-end, run-within, run-all, all-imp}
+use Rattle.utf8.specs.Utf8.{Begins, FirstChar, Rest, begins, nothing}
+use Rattle.utf8.proofs.Laws.{begins-some, begins-high, rest-none, rest-char, rest-ascii, rest-more, rest-stop, next-ascii}
 use Rattle.tables.specs.TokenKinds.{IDENT}
 use Rattle.lexer.specs.Kinds.{texts, fixedOf}
 use Rattle.lexer.specs.Classes.{classOf, Table}

@@ -1,16 +1,16 @@
 -- The kinds' fixed texts and the bytes' classes: each law is one test that antt computes at all kinds or at all bytes. Assumes nothing.
 use mathlib.Core.Path.{_≡_, refl, sym, ap, subst, _∙_}
-use mathlib.Core.Bool.{Bool, true, false, cond, _&&_, _||_, not, Bool·beq, false≢true}
-use mathlib.Core.Logic.{_⊎_, inl, inr, ⊎-elim}
+use mathlib.Core.Bool.{Bool, true, false, _&&_, _||_, not, Bool·beq, false≢true}
+use mathlib.Core.Logic.{⊎-elim}
 use mathlib.Core.List.{List, [], _∷_}
 use Prim.Native.Nat.{ℕ, _≤_, _<_}
 use Prim.Native.String.{String}
 use native.Mathlib.Omega.{arith}
 use native.Mathlib.Decide.{decLt}
-use lib.Dec.{T, leb, ltb, eqb, le→leb, leb→le, lt→ltb, eqb→eq, eqb-refl, T-not}
-use lib.ListN.{length, take, drop, getD, List·getD-eq-default}
+use lib.Dec.{T, leb, eqb, le→leb, leb→le, eqb→eq, T-not}
+use lib.ListN.{length, getD, List·getD-eq-default}
 use lib.Seq.{take-all}
-use borrow.Author.Tests.{eqb-true, eq-eqb, ne-eqb}
+use borrow.Author.Tests.{eqb-true, eq-eqb}
 use Rattle.patterns.specs.Bytes.{bytes, within, same, starts, Set, in-set, white, letter, digit, word, run}
 use Rattle.patterns.specs.Patterns.{All}
 use Rattle.patterns.proofs.Tests.{T-of, of-T, and-l, and-r, and-t, or-cases, implies, modus}

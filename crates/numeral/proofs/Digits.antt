@@ -14,7 +14,6 @@ use mir.Val.{Fits}
 use borrow.Author.Tests.{lt-ltb, le-ltb, ltb-true, ltb-false}
 use Rattle.patterns.proofs.Tests.{implies, modus}
 use Rattle.patterns.proofs.Table.{below, below-law}
-use Rattle.numeral.specs.declared.NumberLiteral.{NumberLiteral}
 use Rattle.numeral.specs.declared.NumberLiteral.the-variants.{Number, Overflow, InvalidFormat}
 use Rattle.numeral.specs.Numeral.{most, digitOf, digitIn, reading}
 

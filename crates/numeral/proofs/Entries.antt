@@ -1,17 +1,17 @@
 -- The numeral entry: what `is_spelling` decides, and that its answers are determined. Assumes nothing.
 use mathlib.Core.Path.{_≡_, refl, sym, ap, subst, _∙_}
-use mathlib.Core.Bool.{Bool, true, false, cond, not, _&&_, _||_, false≢true, and-false}
+use mathlib.Core.Bool.{Bool, true, false, cond, not, _||_, false≢true, and-false}
 use mathlib.Core.List.{List, [], _∷_}
 use Prim.Native.Nat.{ℕ, _+_, _≤_, _<_}
 use native.Mathlib.Omega.{arith}
-use lib.Dec.{T, leb, ltb, eqb, eqb→eq}
-use lib.ListN.{length, take, getD}
+use lib.Dec.{T, ltb, eqb, eqb→eq}
+use lib.ListN.{length, getD}
 use lib.Seq.{take-all}
 use borrow.Author.Tests.{lt-leb, le-leb, eq-eqb, ne-eqb, le-ltb, lt-ltb, not-true, not-false}
 use Rattle.patterns.specs.Bytes.{in-set, digit, word, run}
 use Rattle.patterns.specs.Patterns.{All}
 use Rattle.patterns.proofs.Tests.{T-of, of-T, and-l, and-r}
-use Rattle.patterns.proofs.Table.{below, byte-law}
+use Rattle.patterns.proofs.Table.{byte-law}
 use Rattle.patterns.proofs.Runs.{Passed, passed-more, passed-stop, passed-end, run-all, run-within}
 use Rattle.numeral.specs.Spelling.{Spelling}
 use Rattle.numeral.specs.Numeral.{digitOf, numeralOf}

@@ -1,15 +1,14 @@
 -- A rule of a table, or of all bytes, by one test that antt computes. Assumes nothing.
 use mathlib.Core.Path.{_≡_, _∙_, sym, subst}
-use mathlib.Core.Bool.{Bool, true, false, _&&_, _||_, false≢true}
+use mathlib.Core.Bool.{Bool, true, false, _&&_, false≢true}
 use mathlib.Core.Logic.{⊎-elim}
 use mathlib.Core.List.{List, [], _∷_}
 use Prim.Native.Nat.{ℕ, zero, suc, _+_, _≤_, _<_}
 use Prim.Native.Char.{code}
 use native.Mathlib.Nat.{add-zero, zero-add, add-suc, suc-add}
 use native.Mathlib.Omega.{arith}
-use lib.Dec.{T, leb, ltb, eqb, leb→le, le→leb, ltb→lt, eqb→eq}
+use lib.Dec.{T, leb, ltb, leb→le, le→leb, ltb→lt}
 use lib.ListN.{length, getD, replicate}
-use borrow.Author.Tests.{leb-true}
 use Rattle.patterns.specs.Bytes.{within, Set, in-set}
 use Rattle.patterns.proofs.Tests.{T-of, of-T, and-l, and-r, and-t, or-cases, implies, modus}
 

@@ -2,12 +2,12 @@
 use mathlib.Core.Path.{_≡_, refl, sym, ap, ap₂, subst, _∙_}
 use mathlib.Core.List.{List, [], _∷_, _++_, append-assoc, append-nil}
 use Prim.Native.Nat.{ℕ, zero, suc, _+_, _-_, _*_, _/_, _%_, _^_, _≤_, _<_, min, zero-le}
-use native.Mathlib.Nat.{zero-mul, suc-mul, add-comm, add-zero, add-suc, suc-add, sub-zero, zero-sub, suc-sub-suc, div-zero, mod-add-div, div-div-eq-div-mul, mul-le-mul-right, le-div-iff-mul-le}
+use native.Mathlib.Nat.{zero-mul, suc-mul, add-comm, add-zero, add-suc, suc-add, sub-zero, div-zero, mod-add-div, div-div-eq-div-mul, mul-le-mul-right, le-div-iff-mul-le}
 use native.Mathlib.Numerals.{add-one, towards-suc}
 use native.Mathlib.Omega.{arith}
 use native.Mathlib.Decide.{decLt}
-use lib.ListN.{length, getD, take, drop, set, replicate, length-append, length-take, length-drop, length-replicate, length-set, drop-of-length-le, take-append-drop}
-use lib.Seq.{take-nil, take-all, take-append-le, take-append-add, drop-append-add, take-at, drop-at, drop-drop, sets, sets-eq, length-sets, set-split, take-suc-set, drop-set-lt, getD-take, getD-drop}
+use lib.ListN.{length, getD, take, drop, set, replicate, length-append, length-take, length-drop, length-replicate, length-set}
+use lib.Seq.{take-nil, take-all, take-append-le, take-append-add, drop-append-add, take-at, drop-at, drop-drop, sets, sets-eq, take-suc-set, getD-take, getD-drop}
 use borrow.Author.Tests.{lt-ltb, le-ltb}
 use Rattle.tables.specs.Tables.{Token, Diagnostic, le16, le64, encodeToken, encodeDiagnostic, joined, filled, table, stored, cleared, kept, number, entryAt, decodeToken, decodeDiagnostic, tokenAt, diagnosticAt, tokenTable, diagnosticTable}
 

@@ -1,5 +1,4 @@
 use borrow.Author.Needs.{needs}
-use mathlib.Core.Path.{_∙_}
 use Rattle.numeral.proofs.Cuts.{cut-felt, cut-u32, cut-none}
 use Rattle.numeral.proofs.digit_end.Statement.{statement}
 use Rattle.numeral.proofs.digit_end.Tie as tie

@@ -1,6 +1,4 @@
-use Prim.Native.Nat.{_-_}
 use borrow.Author.Needs.{needs}
-use lib.ListN.{length}
 use Rattle.numeral.proofs.Cuts.{Sought, sought-none, sought-more, sought-stop, sought-end}
 use Rattle.numeral.proofs.rfind.Statement.{statement}
 use Rattle.numeral.proofs.rfind.Tie as tie

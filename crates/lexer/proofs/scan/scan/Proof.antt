@@ -1,4 +1,3 @@
-use mathlib.Core.Path.{sym}
 use mathlib.Core.Logic.{inl, inr}
 use native.Mathlib.Omega.{arith}
 use borrow.Author.Needs.{needs}
