@@ -12,5 +12,4 @@ pub mod Spans
 pub mod Eval
 pub mod Verdict
 pub mod Edge
-pub mod Scan
 pub mod Nest
