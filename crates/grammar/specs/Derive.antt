@@ -34,6 +34,7 @@ unfoldable pub typeName : List ℕ → ℕ
 unfolding same
 typeName w = cond (same (bytes "felt") w) 0 (cond (same (bytes "bool") w) 1 (cond (same (bytes "u32") w) 2 3))
 
+-- the bytes of the text under a token
 abbrev pub spelling : Input → Token → List ℕ
 spelling x t = L.take (t .end - t .start) (L.drop (t .start) (x .text))
 
@@ -54,13 +55,15 @@ pub data Act : Type 0 where
   index : Act  -- its value is the mark; with a suffix it is turned down
   mark : ℕ → Act  -- this number is the mark
 
--- where a node starts, and where it ends
+-- where a node starts: at the first token, at the first part, or 0
 pub data Start : Type 0 where
   firstToken firstPart fromNowhere : Start
 
+-- where it ends: the last token taken, the last part, as a call, or 0
 pub data End : Type 0 where
   lastToken lastPart callEnd toNowhere : End
 
+-- what a grammar is made of, one at a time
 pub data Step : Type 0 where
   take : ℕ → Act → Step  -- a token of this kind
   close : ℕ → Start → End → Step  -- all parts gathered become the children of a node of this kind; the mark is its value
@@ -68,6 +71,7 @@ pub data Step : Type 0 where
   alone : Step  -- turned down unless there is one part
   done : Step  -- nothing
 
+-- expressions of ordered choice: first success wins, as 01 has it
 pub data G : Type 0 where
   step : Step → G
   _&_ : G → G → G  -- one after the other
@@ -98,9 +102,11 @@ pub data Out : Type 0 where
   got : S → Out
   none : Out
 
+-- nothing gathered yet, before the token i
 abbrev pub fresh : ℕ → Frame
 fresh i = record { first = i; parts = 0; mark = 0; from = 0; to = 0 }
 
+-- the start of a text
 abbrev pub begin : S
 begin = record { at = 0; nodes = []; unknown = []; frame = fresh 0 }
 
@@ -108,9 +114,11 @@ begin = record { at = 0; nodes = []; unknown = []; frame = fresh 0 }
 unfoldable pub part : ℕ → ℕ → Frame → Frame
 part a b f = record { first = f .first; parts = suc (f .parts); mark = f .mark; from = cond (eqb (f .parts) 0) a (f .from); to = b }
 
+-- past one token
 abbrev pub next : S → S
 next s = record { at = suc (s .at); nodes = s .nodes; unknown = s .unknown; frame = s .frame }
 
+-- the same with the mark m
 abbrev pub marked : ℕ → S → S
 marked m s =
     let f = s .frame in
@@ -143,6 +151,7 @@ ends x lastPart s = s .frame .to
 ends x callEnd s = cond (eqb (s .frame .parts) 1) (s .frame .to + 2) (s .frame .to)
 ends x toNowhere s = 0
 
+-- all parts become the children of one node, which is then the only part
 abbrev pub closed : ℕ → ℕ → ℕ → S → S
 closed k a b s =
     record {
@@ -152,6 +161,7 @@ closed k a b s =
       frame = record { first = s .frame .first; parts = 1; mark = 0; from = a; to = b };
     }
 
+-- the kind of a literal, by its suffix: 1 felt, 2 u32, else Literal
 abbrev pub literalKind : ℕ → ℕ
 literalKind n = cond (eqb n 1) LiteralFelt (cond (eqb n 2) LiteralU32 Literal)
 
@@ -167,6 +177,7 @@ act x count t s = cond (eqb (t .suffix) 0) (got (emit t Count (t .value) s)) non
 act x index t s = cond (eqb (t .suffix) 0) (got (marked (t .value) s)) none
 act x (mark m) t s = got (marked m s)
 
+-- what one step makes of a state
 unfoldable pub yields : Input → Step → S → Out
 yields x (take k a) s = cond (eqb (token x (s .at) .kind) k) (act x a (token x (s .at)) (next s)) none
 yields x (close k a b) s = got (closed k (starts x a s) (ends x b s) s)
@@ -178,10 +189,12 @@ yields x done s = got s
 abbrev pub enter : S → S
 enter s = record { at = s .at; nodes = s .nodes; unknown = s .unknown; frame = fresh (s .at) }
 
+-- the nodes stay, and what was gathered inside is one part outside
 unfoldable pub leave : S → Out → Out
 leave s (got t) = got (record { at = t .at; nodes = t .nodes; unknown = t .unknown; frame = part (t .frame .from) (t .frame .to) (s .frame) })
 leave s none = none
 
+-- both succeed and end at the same place: the second's state
 unfoldable pub agree : Out → Out → Out
 agree (got a) (got b) = cond (eqb (a .at) (b .at)) (got b) none
 agree (got a) none = none

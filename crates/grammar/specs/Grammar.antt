@@ -51,6 +51,7 @@ spanless k = step (close k fromNowhere toNowhere)
 abbrev pub opt : G → G
 opt g = g or step done
 
+-- one more entry of a list
 abbrev pub another : G → G
 another g = tok COMMA & g
 
@@ -68,6 +69,7 @@ list g = opt (g & many (another g) & opt (tok COMMA))
 abbrev pub star : G
 star = tok MUL & step (close Pointer firstPart lastToken)
 
+-- a type is followed by any number of stars
 abbrev pub stars : G
 stars = many star
 
@@ -89,6 +91,7 @@ arrayType = tok LBRACK & rule type & tok SEMI & size & tok RBRACK & whole FixedA
 
 -- ---- expressions
 
+-- `name: g`, the value of a struct literal's field or the type of a struct's
 abbrev pub field : G → G
 field g = name & tok COLON & g
 
@@ -117,6 +120,7 @@ arrayRepeat =
 abbrev pub arrayLiteral : G
 arrayLiteral = tok LBRACK & list (rule expr) & tok RBRACK & whole Array
 
+-- `(e)`
 abbrev pub parenTail : G
 parenTail = tok RPAREN & whole Paren
 
@@ -183,6 +187,7 @@ letStmt = tok LET & rule pattern & typed & tok EQ & rule expr & tok SEMI & whole
 abbrev pub constDef : G
 constDef = tok CONST & name & typed & tok EQ & rule expr & tok SEMI & whole Const
 
+-- the right side of an assignment, if any
 abbrev pub assigned : G
 assigned = opt (tok EQ & rule expr)
 
@@ -206,6 +211,7 @@ forStmt = tok FOR & tok LPAREN & forInit & rule expr & tok SEMI & rule forStep &
 abbrev pub blockStmt : G
 blockStmt = tok LBRACE & many (rule stmt) & tok RBRACE & whole Block
 
+-- an else belongs to the nearest if
 abbrev pub elsePart : G
 elsePart = opt (tok ELSE & rule stmt)
 

@@ -24,6 +24,7 @@ pub data ResultIs (text : List ℕ) : Result → Type 0 where
   not-utf8 : length text ≤ 65535 → (Utf8 text → ⊥) → ResultIs text encoding
   lexes : {ts : List Token} {ds : List Diagnostic} → length text ≤ 65535 → Utf8 text → Lexes 0 text ts ds → ResultIs text (lexed ts ds)
 
+-- a table without entries
 abbrev pub zeros : ℕ → List ℕ
 zeros n = replicate n 0
 
@@ -33,11 +34,13 @@ lexedOf long = Lexed.Long
 lexedOf encoding = Lexed.Encoding
 lexedOf (lexed ts ds) = Lexed.Done (length ts) (length ds)
 
+-- the token table; a text that is refused leaves none
 abbrev pub tokensOf : ℕ → Result → List ℕ
 tokensOf n long = zeros n
 tokensOf n encoding = zeros n
 tokensOf n (lexed ts ds) = tokenTable n ts
 
+-- the diagnostic table, likewise
 abbrev pub diagnosticsOf : ℕ → Result → List ℕ
 diagnosticsOf m long = zeros m
 diagnosticsOf m encoding = zeros m
@@ -66,6 +69,7 @@ outcomeOf Answer.Encoding = 2
 outcomeOf (Answer.Lexical d) = 3
 outcomeOf (Answer.TokenRoom t) = 4
 
+-- the number of tokens that an answer gives: of all, also where the table has no room
 abbrev pub tokenCountOf : Answer → ℕ
 tokenCountOf (Answer.Accepted t) = t
 tokenCountOf Answer.Long = 0
@@ -73,6 +77,7 @@ tokenCountOf Answer.Encoding = 0
 tokenCountOf (Answer.Lexical d) = 0
 tokenCountOf (Answer.TokenRoom t) = t
 
+-- the number of lexical errors that it gives, with outcome 3 alone
 abbrev pub diagnosticCountOf : Answer → ℕ
 diagnosticCountOf (Answer.Accepted t) = 0
 diagnosticCountOf Answer.Long = 0

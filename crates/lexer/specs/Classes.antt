@@ -35,6 +35,7 @@ unfoldable pub nextFrom : List String → ℕ → ℕ
 nextFrom [] b = 0
 nextFrom (t ∷ l) b = cond (eqb (length (bytes t)) 2 && eqb (getD (bytes t) 0 0) b) (getD (bytes t) 1 0) (nextFrom l b)
 
+-- the byte that makes the mark b one of two bytes, 0 if none does
 unfoldable pub nextOf : ℕ → ℕ
 unfolding nextFrom texts
 nextOf b = nextFrom (drop 21 texts) b

@@ -18,6 +18,7 @@ texts =
     ∷ "!" ∷ "&&" ∷ "||" ∷ "&" ∷ "|" ∷ "^" ∷ "==" ∷ "!=" ∷ "<=" ∷ ">=" ∷ "<" ∷ ">" ∷ "+" ∷ "-" ∷ "*" ∷ "/" ∷ "%" ∷ "="
     ∷ "->" ∷ "(" ∷ ")" ∷ "{" ∷ "}" ∷ "[" ∷ "]" ∷ "," ∷ ";" ∷ ":" ∷ "::" ∷ "." ∷ []
 
+-- the bytes of the kind's text; none for a numeral and a name
 unfoldable pub fixedOf : ℕ → List ℕ
 unfolding texts
 fixedOf k = bytes (getD texts k "")

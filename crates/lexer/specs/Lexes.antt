@@ -36,6 +36,7 @@ tokens skipped a e ts = ts
 tokens (token k x v) a e ts = record { kind = k; suffix = x; start = a; end = e; value = v } ∷ ts
 tokens (error r) a e ts = ts
 
+-- the lexical errors, likewise
 abbrev pub errors : Item → ℕ → ℕ → List Diagnostic → List Diagnostic
 errors skipped a e ds = ds
 errors (token k x v) a e ds = ds

@@ -24,6 +24,7 @@ pub data KindIs (a e none : ℕ) (w : List ℕ) (r : ℕ) : Type 0 where
 abbrev pub not-newline : ℕ → Bool
 not-newline b = not (in-set (("\n", "\n") ∷ []) b)
 
+-- how far a comment's line goes: to its end, or to a byte where the text is not UTF-8
 pub data LineIs (s : List ℕ) (n : ℕ) : Type 0 where
   line : n ≡ run not-newline s → (n < length s → getD s n 0 ≡ 10) → Rest s n → LineIs s n
   broken : n < length s → (getD s n 0 ≡ 10 → ⊥) → (Utf8 s → ⊥) → LineIs s n

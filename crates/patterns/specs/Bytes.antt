@@ -16,10 +16,11 @@ bytes (c then s) = code c ∷ bytes s
 abbrev pub within : ℕ → ℕ → ℕ → Bool
 within a e b = leb a b && leb b e
 
--- a bracket's ranges of characters, and the bytes in it
+-- a bracket's ranges of characters
 abbrev pub Set : Type 0
 Set = List (Char × Char)
 
+-- the byte is in one of the ranges
 abbrev pub in-set : Set → ℕ → Bool
 in-set [] b = false
 in-set (r ∷ l) b = within (code (r .0)) (code (r .1)) b || in-set l b
@@ -61,12 +62,13 @@ unfoldable pub run : (ℕ → Bool) → List ℕ → ℕ
 run f [] = 0
 run f (b ∷ s) = cond (f b) (suc (run f s)) 0
 
--- s begins with w; s is w
+-- s begins with w
 unfoldable pub starts : List ℕ → List ℕ → Bool
 starts [] s = true
 starts (a ∷ w) [] = false
 starts (a ∷ w) (b ∷ s) = eqb b a && starts w s
 
+-- s is w
 unfoldable pub same : List ℕ → List ℕ → Bool
 unfolding starts
 same w s = eqb (length s) (length w) && starts w s

@@ -20,10 +20,11 @@ pub record Diagnostic : Type 0 where
   pub end : ℕ
   pub reason : ℕ
 
--- little-endian numbers of 16 and 64 bits
+-- little-endian numbers of 16 bits
 unfoldable pub le16 : ℕ → List ℕ
 le16 v = v % 256 ∷ v / 256 % 256 ∷ []
 
+-- and of 64
 unfoldable pub le64 : ℕ → List ℕ
 le64 v =
     v % 256 ∷ v / 2 ^ 8 % 256 ∷ v / 2 ^ 16 % 256 ∷ v / 2 ^ 24 % 256 ∷ v / 2 ^ 32 % 256 ∷ v / 2 ^ 40 % 256 ∷ v / 2 ^ 48 % 256 ∷ v / 2 ^ 56 % 256 ∷ []
@@ -38,6 +39,7 @@ unfoldable pub encodeDiagnostic : Diagnostic → List ℕ
 unfolding le16
 encodeDiagnostic d = le16 (d .start) ++ le16 (d .end) ++ (d .reason ∷ 0 ∷ 0 ∷ 0 ∷ [])
 
+-- entries one after the other
 unfoldable pub joined : {A : Type 0} → (A → List ℕ) → List A → List ℕ
 joined f [] = []
 joined f (a ∷ l) = f a ++ joined f l
@@ -51,19 +53,24 @@ unfoldable pub table : {A : Type 0} → ℕ → (A → List ℕ) → ℕ → Lis
 unfolding filled joined
 table size f n l = filled n (joined f (take (n / size) l))
 
+-- the table of these tokens, in n bytes
 abbrev pub tokenTable : ℕ → List Token → List ℕ
 tokenTable n ts = table 16 encodeToken n ts
 
+-- the table of these diagnostics, in n bytes
 abbrev pub diagnosticTable : ℕ → List Diagnostic → List ℕ
 diagnosticTable n ds = table 8 encodeDiagnostic n ds
 
--- ---- what the leaf functions do: entry i stored where there is room for it, and all but the first k entries cleared
+-- ---- what the leaf functions do
+-- entry i is b, where there is room for it
 unfoldable pub stored : ℕ → List ℕ → ℕ → List ℕ → List ℕ
 stored size t i b = cond (ltb i (length t / size)) (sets t (i * size) b) t
 
+-- all bytes from that one on are zero
 unfoldable pub cleared : ℕ → List ℕ → List ℕ
 cleared from t = take from t ++ replicate (length t - from) 0
 
+-- all but the first k entries are zero
 unfoldable pub kept : ℕ → ℕ → List ℕ → List ℕ
 unfolding cleared
 kept size k t = cleared (min k (length t / size) * size) t
