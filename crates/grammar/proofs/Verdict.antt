@@ -1,7 +1,7 @@
 -- What the grammar says of all tokens of a text, computed: a tree that it derives, or that it derives none; and whether an attempt is too deep.
 -- Assumes nothing.
 use Prim.Native.Nat.{ℕ}
-use mathlib.Core.Path.{_≡_, refl, sym, ap, _∙_}
+use mathlib.Core.Path.{_≡_, refl, ap, _∙_}
 use mathlib.Core.Bool.{Bool, true, false, cond}
 use mathlib.Core.List.{List}
 use lib.Dec.{eqb, leb, ltb}
@@ -35,11 +35,6 @@ within (is o h) = leb h 64
 within tired = false
 
 module _ (x : Input) where
-  pub one-tree : {ns ms : List Node} {ds es : List Token} → Tree x ns ds → Tree x ms es → (ns ≡ ms) × (ds ≡ es)
-  one-tree a b =
-      let e = same (unique (a .derived) (b .derived)) in
-      (sym (a .these) ∙ ap (λ (s : S). s .nodes) e ∙ b .these, sym (a .unknowns) ∙ ap (λ (s : S). s .unknown) e ∙ b .unknowns)
-
   found : {m : May} (ns : List Node) (ds : List Token) → Sound body nests x file 0 begin m → verdict (length (x .tokens)) m ≡ tree ns ds → Tree x ns ds
   found ns ds (shown {o = got s} r) v = go (eqb (s .at) (length (x .tokens))) refl v
     where

@@ -1,14 +1,17 @@
 -- The grammar of Cairo-M: every rule but an absent return type takes a token, every round too, and from every state there is an outcome.
 -- Assumes nothing.
 use Prim.Native.Nat.{ℕ, zero, suc, _-_, _<_}
+use mathlib.Core.Path.{_≡_, sym, ap, _∙_}
 use mathlib.Core.Bool.{Bool, true, false}
+use mathlib.Core.List.{List}
 use native.Mathlib.Omega.{arith}
 use lib.Dec.{T}
 use lib.ListN.{length}
-use Rattle.grammar.specs.Derive.{Input, R, type, alloc, pattern, expr, stmt, unary, initLet, initAction, forStep, param, unit, item, level, G, rule, S, Out, Derives}
-use Rattle.grammar.specs.Grammar.{body, file}
+use Rattle.grammar.specs.Derive.{Token, Node, Input, R, type, alloc, pattern, expr, stmt, unary, initLet, initAction, forStep, param, unit, item, level, G, rule, S, Out, Derives}
+use Rattle.grammar.specs.Grammar.{body, file, Tree}
 use Rattle.patterns.proofs.Tests.{implies, modus}
 use Rattle.grammar.proofs.Bodies.{every}
+use Rattle.grammar.proofs.Unique.{unique, same}
 use Rattle.grammar.proofs.On.{On}
 use Rattle.grammar.proofs.Progress.{eats, sane?, Sane, sane-of, eaten, Ate}
 use Rattle.grammar.proofs.Total.{Leads, Some, total}
@@ -82,3 +85,9 @@ file-derives x s = derives x file s (omega arith)
 -- and so does whatever a grammar that eats derives
 pub takes-one : {x : Input} {g : G} {s : S} {o : Out} → T (eats solid g) → T (sane? solid g) → Derives body x g s o → On (Ate (s .at) (length (x .tokens))) o
 takes-one {x} {g} t z d = eaten body x solid eating sane t (sane-of solid g z) d
+
+-- a text has at most one tree
+pub tree-one : {x : Input} {ns ms : List Node} {ds es : List Token} → Tree x ns ds → Tree x ms es → (ns ≡ ms) × (ds ≡ es)
+tree-one a b =
+    let e = same (unique (a .derived) (b .derived)) in
+    (sym (a .these) ∙ ap (λ (s : S). s .nodes) e ∙ b .these, sym (a .unknowns) ∙ ap (λ (s : S). s .unknown) e ∙ b .unknowns)
