@@ -191,7 +191,7 @@ fn strange(t: &[u8]) -> Found
 }
 
 // By the class of the first byte.
-pub fn scan(t: &[u8], classes: &[u8; 256], nexts: &[u8; 256], pairs: &[u8; 256]) -> Found
+pub(crate) fn scan(t: &[u8], classes: &[u8; 256], nexts: &[u8; 256], pairs: &[u8; 256]) -> Found
     requires { ⌜ 0 < length (now t) ⌝ }
     requires { ⌜ Table classOf (now classes) ⌝ }
     requires { ⌜ Table nextOf (now nexts) ⌝ }

@@ -3,7 +3,7 @@ ghost use Prim.Native.Nat.{_≤_, _<_};
 ghost use lib.ListN.{length};
 
 // The place of the next line feed from `at` on, or the end.
-pub fn line_end(file: &[u8], at: usize) -> usize
+pub(crate) fn line_end(file: &[u8], at: usize) -> usize
     requires { ⌜ at ≤ length (now file) ⌝ }
     ensures { λ r. ⌜ (at ≤ r) × (r ≤ length (now (file .entry))) ⌝ }
 {

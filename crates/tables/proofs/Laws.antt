@@ -39,13 +39,14 @@ module _ {t₀ : List ℕ} {at : ℕ} where
       sym (ap₂ (λ (x : List ℕ) (k : ℕ). x ++ zeros k) (take-all i t h) n ∙ append-nil t) ∙ p .so-far
 
 -- ---- keeping the first k entries
-pub kept-some : (w k : ℕ) (t : List ℕ) → k < length t / w → cleared (k * w) t ≡ kept w k t
-unfolding kept
-kept-some w k t h = ap (λ (n : ℕ). cleared (n * w) t) (omega arith)
+module _ (w k : ℕ) (t : List ℕ) {u : List ℕ} where
+  pub kept-some : {a : ℕ} → k < length t / w → a ≡ k * w + 0 → u ≡ cleared a t → u ≡ kept w k t
+  unfolding kept
+  kept-some h e f = f ∙ ap (λ (n : ℕ). cleared n t) (e ∙ add-zero (k * w) ∙ ap (λ (n : ℕ). n * w) (omega arith))
 
-pub kept-all : (w k : ℕ) (t : List ℕ) → length t / w ≤ k → cleared (length t / w * w) t ≡ kept w k t
-unfolding kept
-kept-all w k t h = ap (λ (n : ℕ). cleared (n * w) t) (omega arith)
+  pub kept-all : length t / w ≤ k → u ≡ cleared (length t / w * w) t → u ≡ kept w k t
+  unfolding kept
+  kept-all h f = f ∙ ap (λ (n : ℕ). cleared (n * w) t) (omega arith)
 
 -- ---- an entry is one word or two
 sets-append : (l : List ℕ) (i : ℕ) (u v : List ℕ) → sets (sets l i u) (i + length u) v ≡ sets l i (u ++ v)

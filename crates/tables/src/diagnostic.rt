@@ -1,7 +1,7 @@
 // Diagnostic entries.
 use super::byte;
-use super::clear_from;
 use super::half;
+use super::keep;
 use super::put_word;
 ghost use mathlib.Core.Path.{_≡_};
 ghost use Prim.Native.Nat.{_/_};
@@ -23,12 +23,7 @@ pub fn put_diagnostic(t: &mut [u8], i: usize, start: u16, end: u16, reason: u8)
 pub fn keep_diagnostics(t: &mut [u8], k: usize)
     ensures { λ r. ⌜ now (t .exit) ≡ kept 8 k (now (t .entry)) ⌝ }
 {
-    let room = t.len() / 8;
-    if k < room {
-        clear_from(t, k * 8);
-        return;
-    }
-    clear_from(t, room * 8);
+    keep(t, 8, k);
 }
 
 // How many entries there is room for.

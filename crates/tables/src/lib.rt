@@ -7,7 +7,7 @@ ghost use mathlib.Core.Path.{_≡_};
 ghost use Prim.Native.Nat.{_+_, _*_, _/_, _≤_, _<_};
 ghost use lib.ListN.{length};
 ghost use lib.Seq.{sets};
-ghost use Rattle.tables.specs.Tables.{le64, number, entryAt, cleared};
+ghost use Rattle.tables.specs.Tables.{le64, number, entryAt, cleared, kept};
 
 // All bytes from `at` on become zero.
 pub fn clear_from(t: &mut [u8], at: usize)
@@ -18,6 +18,19 @@ pub fn clear_from(t: &mut [u8], at: usize)
         t[i] = 0;
         i += 1;
     }
+}
+
+// Clears all but the first k entries, each of w bytes.
+fn keep(t: &mut [u8], w: usize, k: usize)
+    requires { ⌜ 0 < w ⌝ }
+    ensures { λ r. ⌜ now (t .exit) ≡ kept w k (now (t .entry)) ⌝ }
+{
+    let room = t.len() / w;
+    if k < room {
+        clear_from(t, place(t.len(), w, k, 0));
+        return;
+    }
+    clear_from(t, room * w);
 }
 
 // Little-endian.

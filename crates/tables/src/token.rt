@@ -1,7 +1,7 @@
 // Token entries.
 use super::byte;
-use super::clear_from;
 use super::half;
+use super::keep;
 use super::put_word;
 use super::word;
 ghost use mathlib.Core.Path.{_≡_};
@@ -28,12 +28,7 @@ pub fn put_token(t: &mut [u8], i: usize, kind: u8, suffix: u8, start: u16, end: 
 pub fn keep_tokens(t: &mut [u8], k: usize)
     ensures { λ r. ⌜ now (t .exit) ≡ kept 16 k (now (t .entry)) ⌝ }
 {
-    let room = t.len() / 16;
-    if k < room {
-        clear_from(t, k * 16);
-        return;
-    }
-    clear_from(t, room * 16);
+    keep(t, 16, k);
 }
 
 // How many entries there is room for.
