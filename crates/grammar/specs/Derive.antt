@@ -8,18 +8,10 @@ use lib.ListN as L
 use lib.ListN.{getD}
 use Rattle.patterns.specs.Bytes.{bytes, same}
 use Rattle.grammar.specs.Kinds.{Named, Count, Literal, LiteralFelt, LiteralU32}
-pub use Rattle.tables.specs.Tables.{Token}
+pub use Rattle.tables.specs.Tables.{Token, Node}
 
 infixr 50 _&_
 infixr 40 _or_
--- a node has kind, start, end, number of children and a value
-pub record Node : Type 0 where
-  pub kind : ℕ
-  pub start : ℕ
-  pub end : ℕ
-  pub children : ℕ
-  pub value : ℕ
-
 -- a text's bytes and its tokens
 pub record Input : Type 0 where
   pub text : List ℕ

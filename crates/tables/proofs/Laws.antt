@@ -9,7 +9,7 @@ use native.Mathlib.Decide.{decLt}
 use lib.ListN.{length, getD, take, drop, set, replicate, length-append, length-take, length-drop, length-replicate, length-set}
 use lib.Seq.{take-nil, take-all, take-append-le, take-append-add, drop-append-add, take-at, drop-at, drop-drop, sets, sets-eq, take-suc-set, getD-take, getD-drop}
 use borrow.Author.Tests.{lt-ltb, le-ltb}
-use Rattle.tables.specs.Tables.{Token, Diagnostic, le16, le64, encodeToken, encodeDiagnostic, joined, filled, table, stored, cleared, kept, number, entryAt, decodeToken, decodeDiagnostic, tokenAt, diagnosticAt, tokenTable, diagnosticTable}
+use Rattle.tables.specs.Tables.{Token, Node, Diagnostic, le16, le64, encodeToken, encodeNode, encodeDiagnostic, joined, filled, table, stored, cleared, kept, number, entryAt, decodeToken, decodeDiagnostic, tokenAt, diagnosticAt, tokenTable, diagnosticTable}
 
 abbrev zeros : ℕ → List ℕ
 zeros n = replicate n 0
@@ -63,18 +63,32 @@ unfolding stored
 stored-none w t i b h = sym (rw (le-ltb i (length t / w) h))
 
 module _ (t : List ℕ) (i : ℕ) where
+  -- an entry of two words, whose first has the bytes b
+  stored-two : {t′ t″ b : List ℕ} (w v : ℕ) → i < length t / 16 → le64 w ≡ b → t′ ≡ sets t (i * 16) (le64 w) → t″ ≡ sets t′ (i * 16 + 8) (le64 v)
+      → t″ ≡ stored 16 t i (b ++ le64 v)
+  unfolding stored le64
+  stored-two w v h first e f =
+      f
+      ∙ ap (λ (l : List ℕ). sets l (i * 16 + 8) (le64 v)) e
+      ∙ sets-append t (i * 16) (le64 w) (le64 v)
+      ∙ ap (λ (b : List ℕ). sets t (i * 16) (b ++ le64 v)) first
+      ∙ sym (rw (lt-ltb i (length t / 16) h))
+
   pub stored-token : (k : Token) {t′ t″ : List ℕ} → i < length t / 16 → k .kind < 256 → k .suffix < 256 → k .start < 65536 → k .end < 65536
       → t′ ≡ sets t (i * 16) (le64 (k .kind + k .suffix * 0x100 + k .start * 0x10000 + k .end * 0x100000000)) → t″ ≡ sets t′ (i * 16 + 8) (le64 (k .value))
       → t″ ≡ stored 16 t i (encodeToken k)
-  unfolding stored encodeToken le16 le64
-  stored-token k h a b c d e f =
-      let first : le64 (k .kind + k .suffix * 0x100 + k .start * 0x10000 + k .end * 0x100000000) ≡ take 8 (encodeToken k) =
-      eight (omega arith) (omega arith) (omega arith) (omega arith) (omega arith) (omega arith) (omega arith) (omega arith) in
-      f
-      ∙ ap (λ (l : List ℕ). sets l (i * 16 + 8) (le64 (k .value))) e
-      ∙ sets-append t (i * 16) (le64 (k .kind + k .suffix * 0x100 + k .start * 0x10000 + k .end * 0x100000000)) (le64 (k .value))
-      ∙ ap (λ (b : List ℕ). sets t (i * 16) (b ++ le64 (k .value))) first
-      ∙ sym (rw (lt-ltb i (length t / 16) h))
+  unfolding encodeToken le16 le64
+  stored-token k h a b c d =
+      stored-two (k .kind + k .suffix * 0x100 + k .start * 0x10000 + k .end * 0x100000000) (k .value) h
+      (eight (omega arith) (omega arith) (omega arith) (omega arith) (omega arith) (omega arith) (omega arith) (omega arith))
+
+  pub stored-node : (k : Node) {t′ t″ : List ℕ} → i < length t / 16 → k .kind < 256 → k .start < 65536 → k .end < 65536 → k .children < 65536
+      → t′ ≡ sets t (i * 16) (le64 (k .kind + k .start * 0x10000 + k .end * 0x100000000 + k .children * 0x1000000000000)) → t″ ≡ sets t′ (i * 16 + 8) (le64 (k .value))
+      → t″ ≡ stored 16 t i (encodeNode k)
+  unfolding encodeNode le16 le64
+  stored-node k h a b c d =
+      stored-two (k .kind + k .start * 0x10000 + k .end * 0x100000000 + k .children * 0x1000000000000) (k .value) h
+      (eight (omega arith) (omega arith) (omega arith) (omega arith) (omega arith) (omega arith) (omega arith) (omega arith))
 
   pub stored-diagnostic : (d : Diagnostic) {t′ : List ℕ} → i < length t / 8 → d .start < 65536 → d .end < 65536 → d .reason < 256
       → t′ ≡ sets t (i * 8) (le64 (d .start + d .end * 0x10000 + d .reason * 0x100000000)) → t′ ≡ stored 8 t i (encodeDiagnostic d)

@@ -14,6 +14,14 @@ pub record Token : Type 0 where
   pub end : ℕ
   pub value : ℕ
 
+-- a node has kind, start, end, number of children and a value
+pub record Node : Type 0 where
+  pub kind : ℕ
+  pub start : ℕ
+  pub end : ℕ
+  pub children : ℕ
+  pub value : ℕ
+
 -- reason 1 character, 2 overflow, 3 format, 4 unknown suffix
 pub record Diagnostic : Type 0 where
   pub start : ℕ
@@ -33,6 +41,11 @@ le64 v =
 unfoldable pub encodeToken : Token → List ℕ
 unfolding le16 le64
 encodeToken t = (t .kind ∷ t .suffix ∷ le16 (t .start)) ++ le16 (t .end) ++ (0 ∷ 0 ∷ le64 (t .value))
+
+-- an entry of 16 bytes: kind u8, a zero byte, start u16, end u16, children u16, value u64
+unfoldable pub encodeNode : Node → List ℕ
+unfolding le16 le64
+encodeNode n = (n .kind ∷ 0 ∷ le16 (n .start)) ++ le16 (n .end) ++ le16 (n .children) ++ le64 (n .value)
 
 -- an entry of 8 bytes: start u16, end u16, reason u8, three zero bytes
 unfoldable pub encodeDiagnostic : Diagnostic → List ℕ
@@ -56,6 +69,10 @@ table size f n l = filled n (joined f (take (n / size) l))
 -- the table of these tokens, in n bytes
 abbrev pub tokenTable : ℕ → List Token → List ℕ
 tokenTable n ts = table 16 encodeToken n ts
+
+-- the table of these nodes, in n bytes
+abbrev pub nodeTable : ℕ → List Node → List ℕ
+nodeTable n ns = table 16 encodeNode n ns
 
 -- the table of these diagnostics, in n bytes
 abbrev pub diagnosticTable : ℕ → List Diagnostic → List ℕ
@@ -89,6 +106,10 @@ entryAt size t i = cond (ltb i (length t / size)) (take size (drop (i * size) t)
 abbrev pub decodeToken : List ℕ → Token
 decodeToken b = record { kind = number b 0 1; suffix = number b 1 1; start = number b 2 2; end = number b 4 2; value = number b 8 8 }
 
+-- the node that an entry's bytes say
+abbrev pub decodeNode : List ℕ → Node
+decodeNode b = record { kind = number b 0 1; start = number b 2 2; end = number b 4 2; children = number b 6 2; value = number b 8 8 }
+
 -- the diagnostic that an entry's bytes say
 abbrev pub decodeDiagnostic : List ℕ → Diagnostic
 decodeDiagnostic b = record { start = number b 0 2; end = number b 2 2; reason = number b 4 1 }
@@ -97,6 +118,20 @@ decodeDiagnostic b = record { start = number b 0 2; end = number b 2 2; reason =
 abbrev pub tokenAt : List ℕ → ℕ → Token
 tokenAt t i = decodeToken (entryAt 16 t i)
 
+-- entry i of a table of nodes, all 0 where the table has no entry i
+abbrev pub nodeAt : List ℕ → ℕ → Node
+nodeAt t i = decodeNode (entryAt 16 t i)
+
 -- entry i of a table of diagnostics, all 0 where the table has no entry i
 abbrev pub diagnosticAt : List ℕ → ℕ → Diagnostic
 diagnosticAt t i = decodeDiagnostic (entryAt 8 t i)
+
+-- the list of f 0, f 1 and so on, n of them
+unfoldable pub tabulate : {A : Type 0} → ℕ → (ℕ → A) → List A
+tabulate zero f = []
+tabulate (suc n) f = f 0 ∷ tabulate n (λ i. f (suc i))
+
+-- all tokens of a table
+unfoldable pub tokensOf : List ℕ → List Token
+unfolding tabulate
+tokensOf t = tabulate (length t / 16) (λ i. tokenAt t i)

@@ -1,5 +1,6 @@
-// Lent tables of tokens and diagnostics. Only the functions of this crate know an entry's layout.
+// Lent tables of tokens, nodes and diagnostics. Only the functions of this crate know an entry's layout.
 pub mod diagnostic;
+pub mod node;
 pub mod token;
 pub mod token_type;
 
