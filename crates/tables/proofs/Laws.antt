@@ -6,10 +6,10 @@ use native.Mathlib.Nat.{zero-mul, suc-mul, add-comm, add-zero, add-suc, suc-add,
 use native.Mathlib.Numerals.{add-one, towards-suc}
 use native.Mathlib.Omega.{arith}
 use native.Mathlib.Decide.{decLt}
-use lib.ListN.{length, getD, take, drop, set, replicate, length-append, length-take, length-drop, length-replicate, length-set}
-use lib.Seq.{take-nil, take-all, take-append-le, take-append-add, drop-append-add, take-at, drop-at, drop-drop, sets, sets-eq, take-suc-set, getD-take, getD-drop}
+use lib.ListN.{length, getD, take, drop, set, replicate, length-append, length-take, length-drop, length-replicate, length-set, List·getD-eq-default}
+use lib.Seq.{take-nil, take-all, take-append-le, take-append-add, drop-append-add, take-at, drop-at, drop-drop, sets, sets-eq, take-suc-set, getD-take, getD-drop, ext-getD}
 use borrow.Author.Tests.{lt-ltb, le-ltb}
-use Rattle.tables.specs.Tables.{Token, Node, Diagnostic, le16, le64, encodeToken, encodeNode, encodeDiagnostic, joined, filled, table, stored, cleared, kept, number, entryAt, decodeToken, decodeDiagnostic, tokenAt, diagnosticAt, tokenTable, diagnosticTable}
+use Rattle.tables.specs.Tables.{Token, Node, Diagnostic, le16, le64, encodeToken, encodeNode, encodeDiagnostic, joined, filled, table, stored, cleared, kept, number, entryAt, decodeToken, decodeNode, decodeDiagnostic, tokenAt, nodeAt, diagnosticAt, tokenTable, nodeTable, diagnosticTable, tabulate, tokensOf}
 
 abbrev zeros : ℕ → List ℕ
 zeros n = replicate n 0
@@ -171,6 +171,10 @@ pub token-size : (t : Token) → length (encodeToken t) ≡ 16
 unfolding encodeToken le16 le64
 token-size t = refl
 
+pub node-size : (n : Node) → length (encodeNode n) ≡ 16
+unfolding encodeNode le16 le64
+node-size n = refl
+
 pub diagnostic-size : (d : Diagnostic) → length (encodeDiagnostic d) ≡ 8
 unfolding encodeDiagnostic le16
 diagnostic-size d = refl
@@ -275,6 +279,13 @@ pub record TokenFits (t : Token) : Type 0 where
   pub end-fits : t .end < 65536
   pub value-fits : t .value < 2 ^ 64
 
+pub record NodeFits (n : Node) : Type 0 where
+  pub kind-fits : n .kind < 256
+  pub start-fits : n .start < 65536
+  pub end-fits : n .end < 65536
+  pub children-fits : n .children < 65536
+  pub value-fits : n .value < 2 ^ 64
+
 pub record DiagnosticFits (d : Diagnostic) : Type 0 where
   pub start-fits : d .start < 65536
   pub end-fits : d .end < 65536
@@ -297,6 +308,11 @@ unfolding encodeToken le16 le64 number
 token-decoded t h =
     rw (add-zero (t .kind), add-zero (t .suffix), half-decoded (t .start) (h .start-fits), half-decoded (t .end) (h .end-fits), word-decoded (t .value) (h .value-fits))
 
+node-decoded : (n : Node) → NodeFits n → decodeNode (encodeNode n) ≡ n
+unfolding encodeNode le16 le64 number
+node-decoded n h =
+    rw (add-zero (n .kind), half-decoded (n .start) (h .start-fits), half-decoded (n .end) (h .end-fits), half-decoded (n .children) (h .children-fits), word-decoded (n .value) (h .value-fits))
+
 diagnostic-decoded : (d : Diagnostic) → DiagnosticFits d → decodeDiagnostic (encodeDiagnostic d) ≡ d
 unfolding encodeDiagnostic le16 number
 diagnostic-decoded t h =
@@ -305,17 +321,64 @@ diagnostic-decoded t h =
 pub token-read : (n : ℕ) (ts : List Token) (i : ℕ) (d : Token) → i < length ts → i < n / 16 → TokenFits (getD ts i d) → tokenAt (tokenTable n ts) i ≡ getD ts i d
 token-read n ts i d h k fits = ap decodeToken (entry-stored encodeToken 16 (omega arith) token-size n ts i d h k) ∙ token-decoded (getD ts i d) fits
 
+pub node-read : (n : ℕ) (ns : List Node) (i : ℕ) (d : Node) → i < length ns → i < n / 16 → NodeFits (getD ns i d) → nodeAt (nodeTable n ns) i ≡ getD ns i d
+node-read n ns i d h k fits = ap decodeNode (entry-stored encodeNode 16 (omega arith) node-size n ns i d h k) ∙ node-decoded (getD ns i d) fits
+
 pub diagnostic-read : (n : ℕ) (ds : List Diagnostic) (i : ℕ) (d : Diagnostic) → i < length ds → i < n / 8 → DiagnosticFits (getD ds i d)
     → diagnosticAt (diagnosticTable n ds) i ≡ getD ds i d
 diagnostic-read n ds i d h k fits =
     ap decodeDiagnostic (entry-stored encodeDiagnostic 8 (omega arith) diagnostic-size n ds i d h k) ∙ diagnostic-decoded (getD ds i d) fits
 
-pub token-past : (n : ℕ) (ts : List Token) (i : ℕ) → length ts ≤ i → tokenAt (tokenTable n ts) i ≡ record { kind = 0; suffix = 0; start = 0; end = 0; value = 0 }
-token-past n ts i h =
-    let past = number-past encodeToken 16 (omega arith) token-size n ts i h in
-    rw (past 0 1 (omega arith), past 1 1 (omega arith), past 2 2 (omega arith), past 4 2 (omega arith), past 8 8 (omega arith))
+-- a token of kind 0, all else 0 too
+abbrev pub zero-token : Token
+zero-token = record { kind = 0; suffix = 0; start = 0; end = 0; value = 0 }
+
+token-none : (b : List ℕ) → ((a k : ℕ) → a + k ≤ 16 → number b a k ≡ 0) → decodeToken b ≡ zero-token
+token-none b h = rw (h 0 1 (omega arith), h 1 1 (omega arith), h 2 2 (omega arith), h 4 2 (omega arith), h 8 8 (omega arith))
+
+pub token-past : (n : ℕ) (ts : List Token) (i : ℕ) → length ts ≤ i → tokenAt (tokenTable n ts) i ≡ zero-token
+token-past n ts i h = token-none (entryAt 16 (tokenTable n ts) i) (number-past encodeToken 16 (omega arith) token-size n ts i h)
+
+pub node-past : (n : ℕ) (ns : List Node) (i : ℕ) → length ns ≤ i → nodeAt (nodeTable n ns) i ≡ record { kind = 0; start = 0; end = 0; children = 0; value = 0 }
+node-past n ns i h =
+    let past = number-past encodeNode 16 (omega arith) node-size n ns i h in
+    rw (past 0 1 (omega arith), past 2 2 (omega arith), past 4 2 (omega arith), past 6 2 (omega arith), past 8 8 (omega arith))
 
 pub diagnostic-past : (n : ℕ) (ds : List Diagnostic) (i : ℕ) → length ds ≤ i → diagnosticAt (diagnosticTable n ds) i ≡ record { start = 0; end = 0; reason = 0 }
 diagnostic-past n ds i h =
     let past = number-past encodeDiagnostic 8 (omega arith) diagnostic-size n ds i h in
     rw (past 0 2 (omega arith), past 2 2 (omega arith), past 4 1 (omega arith))
+
+-- ---- all tokens of a table
+module _ {A : Type 0} where
+  tabulate-length : (n : ℕ) (f : ℕ → A) → length (tabulate n f) ≡ n
+  unfolding tabulate
+  tabulate-length zero f = refl
+  tabulate-length (suc n) f = ap suc (tabulate-length n (λ i. f (suc i)))
+
+  tabulate-at : (n : ℕ) (f : ℕ → A) (i : ℕ) (d : A) → i < n → getD (tabulate n f) i d ≡ f i
+  unfolding tabulate
+  tabulate-at zero f i d h = absurd (omega arith)
+  tabulate-at (suc n) f zero d h = refl
+  tabulate-at (suc n) f (suc i) d h = tabulate-at n (λ j. f (suc j)) i d (omega arith)
+
+pub tokens-length : (t : List ℕ) → length (tokensOf t) ≡ length t / 16
+unfolding tokensOf
+tokens-length t = tabulate-length _ _
+
+pub tokens-at : (t : List ℕ) (i : ℕ) → getD (tokensOf t) i zero-token ≡ tokenAt t i
+unfolding tokensOf
+tokens-at t i =
+    elim (decLt i (length t / 16)) [
+      | yes p ↦ tabulate-at _ _ i zero-token p
+      | no p ↦
+          List·getD-eq-default (tokensOf t) zero-token (omega (arith, tokens-length t))
+          ∙ sym (token-none (entryAt 16 t i) (λ a k _. sym (number-none 16 i t a k (omega arith))))
+    ]
+
+pub tokens-of-table : (ts : List Token) (n : ℕ) → n / 16 ≡ length ts → ((i : ℕ) → i < length ts → TokenFits (getD ts i zero-token)) → tokensOf (tokenTable n ts) ≡ ts
+tokens-of-table ts n e fits =
+    let l : length (tokensOf (tokenTable n ts)) ≡ length ts =
+    tokens-length (tokenTable n ts) ∙ ap (λ (m : ℕ). m / 16) (table-length encodeToken 16 (omega arith) token-size n ts) ∙ e in
+    ext-getD zero-token (tokensOf (tokenTable n ts)) ts l
+    (λ i h. tokens-at (tokenTable n ts) i ∙ token-read n ts i zero-token (omega arith) (omega arith) (fits i (omega arith)))
