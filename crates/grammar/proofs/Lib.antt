@@ -4,11 +4,14 @@ pub mod Unique
 pub mod Progress
 pub mod Total
 pub mod Whole
+pub mod First
+pub mod Added
 pub mod Suffix
 pub mod Trees
 pub mod Forest
 pub mod Levels
 pub mod Spans
+pub mod Fits
 pub mod Eval
 pub mod Verdict
 pub mod Edge

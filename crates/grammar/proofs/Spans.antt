@@ -33,7 +33,7 @@ pub data Each (P : Node → Type 0) : List Node → Type 0 where
   no-node : Each P []
   node : {n : Node} {ns : List Node} → P n → Each P ns → Each P (n ∷ ns)
 
-add : {P : Node → Type 0} {n : Node} {ns : List Node} → Each P ns → P n → Each P (ns ++ (n ∷ []))
+pub add : {P : Node → Type 0} {n : Node} {ns : List Node} → Each P ns → P n → Each P (ns ++ (n ∷ []))
 add no-node p = node p no-node
 add (node q e) p = node q (add e p)
 
@@ -157,7 +157,7 @@ weaker {x} {i} d e h q = on-map less q
         let b : d .ahead ≤ e .ahead = omega arith in
         (ns, omega (arith, mul-le-mul-right (suc (lead x i)) b, mul-le-mul-right (t .frame .from) b))
 
-pick-le : (b : Bool) (a c : ℕ) → cond b a c ≤ max a c
+pub pick-le : (b : Bool) (a c : ℕ) → cond b a c ≤ max a c
 pick-le true a c = omega arith
 pick-le false a c = omega arith
 

@@ -1,0 +1,12 @@
+pub mod Attempts
+pub mod Cursors
+pub mod Holding
+pub mod Laws
+pub mod Falls
+pub mod Loops
+pub mod Lists
+pub mod Shapes
+pub mod Steps
+pub mod Prefixes
+pub mod Levels
+pub mod Reading

@@ -1,0 +1,14 @@
+use borrow.Author.Needs.{needs}
+use Rattle.parser.specs.Read.{agrees-not, agrees-else, agrees}
+use Rattle.parser.proofs.Steps.{halted}
+use Rattle.parser.proofs.cursor.Cursor.agree.Statement.{statement}
+use Rattle.parser.proofs.cursor.Cursor.agree.Tie as tie
+
+pub agree-spec : {M : Type 1} → statement M
+agree-spec =
+    tie.close
+    (tie.spec
+    (λ c. search (needs, agrees-not))
+    (λ c κs. search needs)
+    (λ c. search (needs, agrees-else, halted))
+    (λ c. search (needs, agrees)))

@@ -1,0 +1,18 @@
+use borrow.Author.Needs.{needs}
+use Rattle.parser.specs.Read.{grown}
+use Rattle.parser.proofs.Steps.{gathers, from-part, to-callee, to-argument}
+use Rattle.parser.proofs.cursor.Cursor.called.Statement.{statement}
+use Rattle.parser.proofs.cursor.Cursor.called.Tie as tie
+
+pub called-spec : {M : Type 1} → statement M
+called-spec =
+    tie.close
+    (tie.spec
+    (λ c κs. search needs)
+    (λ c κs. search needs)
+    (λ c κs. search needs)
+    (λ c. search needs)
+    (λ c. search (needs, grown, gathers, from-part, to-callee))
+    (λ c κs. search needs)
+    (λ c. search needs)
+    (λ c. search (needs, grown, gathers, from-part, to-argument)))

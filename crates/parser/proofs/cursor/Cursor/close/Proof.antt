@@ -1,0 +1,14 @@
+use borrow.Author.Needs.{needs}
+use Rattle.parser.specs.Read.{not-closed, closes}
+use Rattle.parser.proofs.cursor.Cursor.close.Statement.{statement}
+use Rattle.parser.proofs.cursor.Cursor.close.Tie as tie
+
+pub close-spec : {M : Type 1} → statement M
+close-spec =
+    tie.close
+    (tie.spec
+    (λ c. search (needs, not-closed))
+    (λ c κs. search needs)
+    (λ c κs. search needs)
+    (λ c. search needs)
+    (λ c. search (needs, closes, c .next .ensures)))

@@ -1,0 +1,11 @@
+use borrow.Author.Needs.{needs}
+use Rattle.parser.proofs.cursor.Cursor.enter.Statement.{statement}
+use Rattle.parser.proofs.cursor.Cursor.enter.Tie as tie
+
+pub enter-spec : {M : Type 1} → statement M
+enter-spec =
+    tie.close
+    (tie.spec
+    (λ c κs. search needs)
+    (λ c κs. search needs)
+    (λ c. rw (c .inner .ensures, c .before .fresh .ensures)))

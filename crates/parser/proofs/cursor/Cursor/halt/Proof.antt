@@ -1,0 +1,11 @@
+use borrow.Author.Needs.{needs}
+use Rattle.parser.specs.Read.{was-halted, halts}
+use Rattle.parser.proofs.cursor.Cursor.halt.Statement.{statement}
+use Rattle.parser.proofs.cursor.Cursor.halt.Tie as tie
+
+pub halt-spec : {M : Type 1} → statement M
+halt-spec =
+    tie.close
+    (tie.spec
+    (λ c. search (needs, was-halted))
+    (λ c. search (needs, halts)))

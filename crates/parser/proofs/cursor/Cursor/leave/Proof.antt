@@ -1,0 +1,12 @@
+use borrow.Author.Needs.{needs}
+use Rattle.parser.specs.Read.{left-still, left}
+use Rattle.parser.proofs.cursor.Cursor.leave.Statement.{statement}
+use Rattle.parser.proofs.cursor.Cursor.leave.Tie as tie
+
+pub leave-spec : {M : Type 1} → statement M
+leave-spec =
+    tie.close
+    (tie.spec
+    (λ c. search (needs, left-still))
+    (λ c κs. search needs)
+    (λ c. search (needs, left, c .part .ensures)))

@@ -1,0 +1,10 @@
+use borrow.Author.Needs.{needs}
+use Rattle.parser.proofs.cursor.Cursor.signed.Statement.{statement}
+use Rattle.parser.proofs.cursor.Cursor.signed.Tie as tie
+
+pub signed-spec : {M : Type 1} → statement M
+signed-spec =
+    tie.close
+    (tie.spec
+    (λ c κs. search needs)
+    (λ c. rw (c .fresh .ensures)))

@@ -1,0 +1,14 @@
+use borrow.Author.Needs.{needs}
+use Rattle.parser.specs.Read.{steps}
+use Rattle.parser.proofs.Laws.{absent, first}
+use Rattle.parser.proofs.Steps.{wanted, took}
+use Rattle.parser.proofs.cursor.Cursor.skip.Statement.{statement}
+use Rattle.parser.proofs.cursor.Cursor.skip.Tie as tie
+
+pub skip-spec : {M : Type 1} → statement M
+skip-spec =
+    tie.close
+    (tie.spec
+    (λ c κs. search needs)
+    (λ c. search (needs, wanted, steps, absent, took))
+    (λ c. search (needs, wanted, steps, first, took)))

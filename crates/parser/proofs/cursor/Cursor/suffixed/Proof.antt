@@ -1,0 +1,15 @@
+use borrow.Author.Needs.{needs}
+use Rattle.parser.specs.Read.{puts}
+use Rattle.parser.proofs.Steps.{gathers, from-part, to-token}
+use Rattle.parser.proofs.cursor.Cursor.suffixed.Statement.{statement}
+use Rattle.parser.proofs.cursor.Cursor.suffixed.Tie as tie
+
+pub suffixed-spec : {M : Type 1} → statement M
+suffixed-spec =
+    tie.close
+    (tie.spec
+    (λ c κs. search needs)
+    (λ c κs. search needs)
+    (λ c κs. search needs)
+    (λ c. search needs)
+    (λ c. search (needs, puts, gathers, from-part, to-token)))

@@ -1,0 +1,14 @@
+use borrow.Author.Needs.{needs}
+use Rattle.parser.specs.Read.{free}
+use Rattle.parser.proofs.Laws.{idle}
+use Rattle.parser.proofs.Steps.{ticks}
+use Rattle.parser.proofs.cursor.Cursor.tick.Statement.{statement}
+use Rattle.parser.proofs.cursor.Cursor.tick.Tie as tie
+
+pub tick-spec : {M : Type 1} → statement M
+tick-spec =
+    tie.close
+    (tie.spec
+    (λ c. search (needs, free, idle))
+    (λ c κs. search needs)
+    (λ c. search (needs, free, ticks)))

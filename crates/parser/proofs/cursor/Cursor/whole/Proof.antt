@@ -1,0 +1,16 @@
+use borrow.Author.Needs.{needs}
+use Rattle.parser.specs.Read.{puts}
+use Rattle.parser.proofs.Steps.{gathers, from-token, to-token}
+use Rattle.parser.proofs.cursor.Cursor.whole.Statement.{statement}
+use Rattle.parser.proofs.cursor.Cursor.whole.Tie as tie
+
+pub whole-spec : {M : Type 1} → statement M
+whole-spec =
+    tie.close
+    (tie.spec
+    (λ c κs. search needs)
+    (λ c κs. search needs)
+    (λ c κs. search needs)
+    (λ c κs. search needs)
+    (λ c. search needs)
+    (λ c. search (needs, puts, gathers, from-token, to-token)))

@@ -1,0 +1,11 @@
+use borrow.Author.Needs.{needs}
+use borrow.Author.Tests.{eq-eqb, ne-eqb}
+use Rattle.parser.proofs.cursor.choose.Statement.{statement}
+use Rattle.parser.proofs.cursor.choose.Tie as tie
+
+pub choose-spec : {M : Type 1} → statement M
+choose-spec =
+    tie.close
+    (tie.spec
+    (λ c. search (needs, eq-eqb))
+    (λ c. search (needs, ne-eqb)))

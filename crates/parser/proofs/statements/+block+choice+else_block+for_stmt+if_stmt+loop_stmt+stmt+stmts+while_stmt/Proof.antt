@@ -1,0 +1,26 @@
+-- The proof of a cycle of readers: a file for each, and their measures in Sizes. Assumes nothing.
+mod Sizes
+mod Block
+mod Choice
+mod Else_block
+mod For_stmt
+mod If_stmt
+mod Loop_stmt
+mod Stmt
+mod Stmts
+mod While_stmt
+use Sizes.{μ-block, μ-choice, μ-else-block, μ-for-stmt, μ-if-stmt, μ-loop-stmt, μ-stmt, μ-stmts, μ-while-stmt}
+use Block.{block-spec}
+use Choice.{choice-spec}
+use Else_block.{else-block-spec}
+use For_stmt.{for-stmt-spec}
+use If_stmt.{if-stmt-spec}
+use Loop_stmt.{loop-stmt-spec}
+use Stmt.{stmt-spec}
+use Stmts.{stmts-spec}
+use While_stmt.{while-stmt-spec}
+use Rattle.parser.proofs.statements.+block+choice+else_block+for_stmt+if_stmt+loop_stmt+stmt+stmts+while_stmt.{statement}
+use Rattle.parser.proofs.statements.+block+choice+else_block+for_stmt+if_stmt+loop_stmt+stmt+stmts+while_stmt.Tie.{close}
+
+pub +block+choice+else-block+for-stmt+if-stmt+loop-stmt+stmt+stmts+while-stmt-spec : {M : Type 1} → statement M
++block+choice+else-block+for-stmt+if-stmt+loop-stmt+stmt+stmts+while-stmt-spec = close μ-block μ-choice μ-else-block μ-for-stmt μ-if-stmt μ-loop-stmt μ-stmt μ-stmts μ-while-stmt block-spec choice-spec else-block-spec for-stmt-spec if-stmt-spec loop-stmt-spec stmt-spec stmts-spec while-stmt-spec

@@ -1,0 +1,49 @@
+// Patterns: a tuple of two or more, or a name.
+ghost use Rattle.grammar.specs.Derive.{rule, pattern, many, _&_};
+ghost use Rattle.grammar.specs.Grammar.{another};
+ghost use Rattle.parser.specs.Read.{Puts};
+use crate::cursor::Cursor;
+use crate::cursor::FAILED;
+use crate::cursor::READING;
+use grammar::node_kind;
+use tables::token_type::COMMA;
+use tables::token_type::IDENTIFIER;
+use tables::token_type::L_PAREN;
+use tables::token_type::R_PAREN;
+
+pub fn pattern(tokens: &[u8], nodes: &mut [u8], cursor: Cursor) -> Cursor
+    ensures { λ r. ⌜ Puts (rule pattern) (now (tokens .entry)) cursor (now (nodes .entry)) r (now (nodes .exit)) ⌝ }
+{
+    if cursor.status != READING {
+        return cursor;
+    }
+    let p = cursor.enter(1);
+    let k = p.peek(tokens);
+    if k == L_PAREN {
+        let p = p.take(tokens, L_PAREN);
+        let p = pattern(tokens, nodes, p);
+        let p = p.take(tokens, COMMA);
+        let p = pattern(tokens, nodes, p);
+        let p = patterns(tokens, nodes, p);
+        let p = p.take(tokens, R_PAREN);
+        let p = p.spanless(nodes, node_kind::PATTERN_TUPLE);
+        return p.leave(cursor);
+    }
+    let p = p.leaf(tokens, nodes, IDENTIFIER, node_kind::NAME, 0);
+    p.leave(cursor)
+}
+
+fn patterns(tokens: &[u8], nodes: &mut [u8], cursor: Cursor) -> Cursor
+    ensures { λ r. ⌜ Puts (many (another (rule pattern))) (now (tokens .entry)) cursor (now (nodes .entry)) r (now (nodes .exit)) ⌝ }
+{
+    let mut p = cursor;
+    while p.status == READING {
+        let q = p.take(tokens, COMMA);
+        let q = pattern(tokens, nodes, q);
+        if q.status == FAILED {
+            return p;
+        }
+        p = q;
+    }
+    p
+}

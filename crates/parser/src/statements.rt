@@ -1,0 +1,306 @@
+// Statements.
+ghost use Rattle.grammar.specs.Derive.{rule, expr, stmt, forStep, many};
+ghost use Rattle.grammar.specs.Grammar.{tok, opt, typed, condition, letStmt, constDef, action, assigned, finish, forStmt, forInit, elsePart, blockStmt, ifStmt, loopStmt, whileStmt, returnStmt, statement};
+ghost use Rattle.tables.specs.TokenKinds.{SEMI};
+ghost use Rattle.parser.specs.Read.{Reads, Puts};
+use crate::cursor::Cursor;
+use crate::cursor::FAILED;
+use crate::cursor::READING;
+use crate::expressions::expr;
+use crate::let_pattern::pattern;
+use crate::types::type_expr;
+use grammar::node_kind;
+use tables::token_type::BREAK;
+use tables::token_type::COLON;
+use tables::token_type::CONST;
+use tables::token_type::CONTINUE;
+use tables::token_type::ELSE;
+use tables::token_type::EQ;
+use tables::token_type::FOR;
+use tables::token_type::IDENTIFIER;
+use tables::token_type::IF;
+use tables::token_type::L_BRACE;
+use tables::token_type::L_PAREN;
+use tables::token_type::LET;
+use tables::token_type::LOOP;
+use tables::token_type::R_BRACE;
+use tables::token_type::R_PAREN;
+use tables::token_type::RETURN;
+use tables::token_type::SEMICOLON;
+use tables::token_type::WHILE;
+
+fn stmt(text: &[u8], tokens: &[u8], nodes: &mut [u8], cursor: Cursor) -> Cursor
+    ensures { λ r. ⌜ Reads (rule stmt) (now (text .entry)) (now (tokens .entry)) cursor (now (nodes .entry)) r (now (nodes .exit)) ⌝ }
+{
+    if cursor.status != READING {
+        return cursor;
+    }
+    let p = cursor.enter(1);
+    let p = choice(text, tokens, nodes, p);
+    p.leave(cursor)
+}
+
+fn choice(text: &[u8], tokens: &[u8], nodes: &mut [u8], cursor: Cursor) -> Cursor
+    ensures { λ r. ⌜ Reads statement (now (text .entry)) (now (tokens .entry)) cursor (now (nodes .entry)) r (now (nodes .exit)) ⌝ }
+{
+    if cursor.status != READING {
+        return cursor;
+    }
+    let k = cursor.peek(tokens);
+    if k == L_BRACE {
+        return block(text, tokens, nodes, cursor);
+    }
+    if k == IF {
+        return if_stmt(text, tokens, nodes, cursor);
+    }
+    if k == LOOP {
+        return loop_stmt(text, tokens, nodes, cursor);
+    }
+    if k == WHILE {
+        return while_stmt(text, tokens, nodes, cursor);
+    }
+    if k == FOR {
+        return for_stmt(text, tokens, nodes, cursor);
+    }
+    if k == BREAK {
+        let p = cursor.take(tokens, BREAK);
+        let p = p.take(tokens, SEMICOLON);
+        return p.whole(tokens, nodes, node_kind::BREAK);
+    }
+    if k == CONTINUE {
+        let p = cursor.take(tokens, CONTINUE);
+        let p = p.take(tokens, SEMICOLON);
+        return p.whole(tokens, nodes, node_kind::CONTINUE);
+    }
+    if k == LET {
+        return let_stmt(text, tokens, nodes, cursor);
+    }
+    if k == CONST {
+        return const_def(text, tokens, nodes, cursor);
+    }
+    if k == RETURN {
+        return return_stmt(text, tokens, nodes, cursor);
+    }
+    assignment_or_expr(text, tokens, nodes, cursor)
+}
+
+fn block(text: &[u8], tokens: &[u8], nodes: &mut [u8], cursor: Cursor) -> Cursor
+    ensures { λ r. ⌜ Reads blockStmt (now (text .entry)) (now (tokens .entry)) cursor (now (nodes .entry)) r (now (nodes .exit)) ⌝ }
+{
+    if cursor.status != READING {
+        return cursor;
+    }
+    let p = cursor.take(tokens, L_BRACE);
+    let p = stmts(text, tokens, nodes, p);
+    let p = p.take(tokens, R_BRACE);
+    p.whole(tokens, nodes, node_kind::BLOCK)
+}
+
+pub fn stmts(text: &[u8], tokens: &[u8], nodes: &mut [u8], cursor: Cursor) -> Cursor
+    ensures { λ r. ⌜ Reads (many (rule stmt)) (now (text .entry)) (now (tokens .entry)) cursor (now (nodes .entry)) r (now (nodes .exit)) ⌝ }
+{
+    let mut p = cursor;
+    while p.status == READING {
+        let q = stmt(text, tokens, nodes, p);
+        if q.status == FAILED {
+            return p;
+        }
+        p = q;
+    }
+    p
+}
+
+fn if_stmt(text: &[u8], tokens: &[u8], nodes: &mut [u8], cursor: Cursor) -> Cursor
+    ensures { λ r. ⌜ Reads ifStmt (now (text .entry)) (now (tokens .entry)) cursor (now (nodes .entry)) r (now (nodes .exit)) ⌝ }
+{
+    if cursor.status != READING {
+        return cursor;
+    }
+    let p = cursor.take(tokens, IF);
+    let p = condition(text, tokens, nodes, p);
+    let p = stmt(text, tokens, nodes, p);
+    let p = else_block(text, tokens, nodes, p);
+    p.whole(tokens, nodes, node_kind::IF)
+}
+
+fn else_block(text: &[u8], tokens: &[u8], nodes: &mut [u8], cursor: Cursor) -> Cursor
+    ensures { λ r. ⌜ Reads elsePart (now (text .entry)) (now (tokens .entry)) cursor (now (nodes .entry)) r (now (nodes .exit)) ⌝ }
+{
+    if cursor.status != READING {
+        return cursor;
+    }
+    let p = cursor.take(tokens, ELSE);
+    let p = stmt(text, tokens, nodes, p);
+    if p.status == FAILED {
+        return cursor;
+    }
+    p
+}
+
+fn loop_stmt(text: &[u8], tokens: &[u8], nodes: &mut [u8], cursor: Cursor) -> Cursor
+    ensures { λ r. ⌜ Reads loopStmt (now (text .entry)) (now (tokens .entry)) cursor (now (nodes .entry)) r (now (nodes .exit)) ⌝ }
+{
+    if cursor.status != READING {
+        return cursor;
+    }
+    let p = cursor.take(tokens, LOOP);
+    let p = stmt(text, tokens, nodes, p);
+    p.whole(tokens, nodes, node_kind::LOOP)
+}
+
+fn while_stmt(text: &[u8], tokens: &[u8], nodes: &mut [u8], cursor: Cursor) -> Cursor
+    ensures { λ r. ⌜ Reads whileStmt (now (text .entry)) (now (tokens .entry)) cursor (now (nodes .entry)) r (now (nodes .exit)) ⌝ }
+{
+    if cursor.status != READING {
+        return cursor;
+    }
+    let p = cursor.take(tokens, WHILE);
+    let p = condition(text, tokens, nodes, p);
+    let p = stmt(text, tokens, nodes, p);
+    p.whole(tokens, nodes, node_kind::WHILE)
+}
+
+fn for_stmt(text: &[u8], tokens: &[u8], nodes: &mut [u8], cursor: Cursor) -> Cursor
+    ensures { λ r. ⌜ Reads forStmt (now (text .entry)) (now (tokens .entry)) cursor (now (nodes .entry)) r (now (nodes .exit)) ⌝ }
+{
+    if cursor.status != READING {
+        return cursor;
+    }
+    let p = cursor.take(tokens, FOR);
+    let p = p.take(tokens, L_PAREN);
+    let p = for_init(text, tokens, nodes, p);
+    let p = expr(text, tokens, nodes, p);
+    let p = p.take(tokens, SEMICOLON);
+    let p = for_step(text, tokens, nodes, p);
+    let p = p.take(tokens, R_PAREN);
+    let p = stmt(text, tokens, nodes, p);
+    p.whole(tokens, nodes, node_kind::FOR)
+}
+
+fn for_init(text: &[u8], tokens: &[u8], nodes: &mut [u8], cursor: Cursor) -> Cursor
+    ensures { λ r. ⌜ Reads forInit (now (text .entry)) (now (tokens .entry)) cursor (now (nodes .entry)) r (now (nodes .exit)) ⌝ }
+{
+    if cursor.status != READING {
+        return cursor;
+    }
+    let k = cursor.peek(tokens);
+    let p = cursor.enter(0);
+    if k == LET {
+        let p = let_stmt(text, tokens, nodes, p);
+        return p.leave(cursor);
+    }
+    let p = assignment_or_expr(text, tokens, nodes, p);
+    p.leave(cursor)
+}
+
+fn for_step(text: &[u8], tokens: &[u8], nodes: &mut [u8], cursor: Cursor) -> Cursor
+    ensures { λ r. ⌜ Reads (rule forStep) (now (text .entry)) (now (tokens .entry)) cursor (now (nodes .entry)) r (now (nodes .exit)) ⌝ }
+{
+    if cursor.status != READING {
+        return cursor;
+    }
+    let p = cursor.enter(0);
+    let p = expr(text, tokens, nodes, p);
+    let p = assigned(text, tokens, nodes, p);
+    let p = finish(tokens, nodes, p);
+    p.leave(cursor)
+}
+
+fn assignment_or_expr(text: &[u8], tokens: &[u8], nodes: &mut [u8], cursor: Cursor) -> Cursor
+    ensures { λ r. ⌜ Reads (action (tok SEMI)) (now (text .entry)) (now (tokens .entry)) cursor (now (nodes .entry)) r (now (nodes .exit)) ⌝ }
+{
+    let p = expr(text, tokens, nodes, cursor);
+    let p = assigned(text, tokens, nodes, p);
+    let p = p.take(tokens, SEMICOLON);
+    finish(tokens, nodes, p)
+}
+
+fn assigned(text: &[u8], tokens: &[u8], nodes: &mut [u8], cursor: Cursor) -> Cursor
+    ensures { λ r. ⌜ Reads assigned (now (text .entry)) (now (tokens .entry)) cursor (now (nodes .entry)) r (now (nodes .exit)) ⌝ }
+{
+    let p = cursor.take(tokens, EQ);
+    let p = expr(text, tokens, nodes, p);
+    if p.status == FAILED {
+        return cursor;
+    }
+    p
+}
+
+// One part is an expression, two are an assignment.
+fn finish(tokens: &[u8], nodes: &mut [u8], cursor: Cursor) -> Cursor
+    ensures { λ r. ⌜ Puts finish (now (tokens .entry)) cursor (now (nodes .entry)) r (now (nodes .exit)) ⌝ }
+{
+    let p = cursor.alone();
+    let p = p.whole(tokens, nodes, node_kind::EXPR_STMT);
+    if p.status == FAILED {
+        return cursor.whole(tokens, nodes, node_kind::ASSIGN);
+    }
+    p
+}
+
+fn condition(text: &[u8], tokens: &[u8], nodes: &mut [u8], cursor: Cursor) -> Cursor
+    ensures { λ r. ⌜ Reads condition (now (text .entry)) (now (tokens .entry)) cursor (now (nodes .entry)) r (now (nodes .exit)) ⌝ }
+{
+    let p = cursor.take(tokens, L_PAREN);
+    let p = expr(text, tokens, nodes, p);
+    let p = p.take(tokens, R_PAREN);
+    if p.status == FAILED {
+        return expr(text, tokens, nodes, cursor);
+    }
+    p
+}
+
+fn let_stmt(text: &[u8], tokens: &[u8], nodes: &mut [u8], cursor: Cursor) -> Cursor
+    ensures { λ r. ⌜ Reads letStmt (now (text .entry)) (now (tokens .entry)) cursor (now (nodes .entry)) r (now (nodes .exit)) ⌝ }
+{
+    let p = cursor.take(tokens, LET);
+    let p = pattern(tokens, nodes, p);
+    let p = typed(text, tokens, nodes, p);
+    let p = p.take(tokens, EQ);
+    let p = expr(text, tokens, nodes, p);
+    let p = p.take(tokens, SEMICOLON);
+    p.whole(tokens, nodes, node_kind::LET)
+}
+
+pub fn const_def(text: &[u8], tokens: &[u8], nodes: &mut [u8], cursor: Cursor) -> Cursor
+    ensures { λ r. ⌜ Reads constDef (now (text .entry)) (now (tokens .entry)) cursor (now (nodes .entry)) r (now (nodes .exit)) ⌝ }
+{
+    let p = cursor.take(tokens, CONST);
+    let p = p.leaf(tokens, nodes, IDENTIFIER, node_kind::NAME, 0);
+    let p = typed(text, tokens, nodes, p);
+    let p = p.take(tokens, EQ);
+    let p = expr(text, tokens, nodes, p);
+    let p = p.take(tokens, SEMICOLON);
+    p.whole(tokens, nodes, node_kind::CONST)
+}
+
+fn typed(text: &[u8], tokens: &[u8], nodes: &mut [u8], cursor: Cursor) -> Cursor
+    ensures { λ r. ⌜ Reads typed (now (text .entry)) (now (tokens .entry)) cursor (now (nodes .entry)) r (now (nodes .exit)) ⌝ }
+{
+    let p = cursor.take(tokens, COLON);
+    let p = type_expr(text, tokens, nodes, p);
+    let p = p.tick();
+    if p.status == FAILED {
+        return cursor;
+    }
+    p
+}
+
+fn return_stmt(text: &[u8], tokens: &[u8], nodes: &mut [u8], cursor: Cursor) -> Cursor
+    ensures { λ r. ⌜ Reads returnStmt (now (text .entry)) (now (tokens .entry)) cursor (now (nodes .entry)) r (now (nodes .exit)) ⌝ }
+{
+    let p = cursor.take(tokens, RETURN);
+    let p = returned(text, tokens, nodes, p);
+    let p = p.take(tokens, SEMICOLON);
+    p.whole(tokens, nodes, node_kind::RETURN)
+}
+
+fn returned(text: &[u8], tokens: &[u8], nodes: &mut [u8], cursor: Cursor) -> Cursor
+    ensures { λ r. ⌜ Reads (opt (rule expr)) (now (text .entry)) (now (tokens .entry)) cursor (now (nodes .entry)) r (now (nodes .exit)) ⌝ }
+{
+    let p = expr(text, tokens, nodes, cursor);
+    if p.status == FAILED {
+        return cursor;
+    }
+    p
+}

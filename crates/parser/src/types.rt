@@ -1,0 +1,176 @@
+// Types, and the types after `new`, which have no arrays.
+ghost use Rattle.grammar.specs.Derive.{rule, type, alloc, _or_};
+ghost use Rattle.grammar.specs.Grammar.{entries, namedType, tupleType, arrayType, size, tupleEnd, stars};
+ghost use Rattle.parser.specs.Read.{Reads, Puts};
+use crate::cursor::Cursor;
+use crate::cursor::FAILED;
+use crate::cursor::READING;
+use crate::expressions::expr;
+use grammar::node_kind;
+use tables::token_type::COMMA;
+use tables::token_type::IDENTIFIER;
+use tables::token_type::L_BRACK;
+use tables::token_type::L_PAREN;
+use tables::token_type::MUL;
+use tables::token_type::R_BRACK;
+use tables::token_type::R_PAREN;
+use tables::token_type::SEMICOLON;
+
+pub fn type_expr(text: &[u8], tokens: &[u8], nodes: &mut [u8], cursor: Cursor) -> Cursor
+    ensures { λ r. ⌜ Reads (rule type) (now (text .entry)) (now (tokens .entry)) cursor (now (nodes .entry)) r (now (nodes .exit)) ⌝ }
+{
+    if cursor.status != READING {
+        return cursor;
+    }
+    let p = cursor.enter(1);
+    let p = base_type(text, tokens, nodes, p);
+    let p = pointers(tokens, nodes, p);
+    p.leave(cursor)
+}
+
+fn base_type(text: &[u8], tokens: &[u8], nodes: &mut [u8], cursor: Cursor) -> Cursor
+    ensures { λ r. ⌜ Reads (namedType or arrayType or tupleType type) (now (text .entry)) (now (tokens .entry)) cursor (now (nodes .entry)) r (now (nodes .exit)) ⌝ }
+{
+    if cursor.status != READING {
+        return cursor;
+    }
+    let k = cursor.peek(tokens);
+    if k == IDENTIFIER {
+        return cursor.named(text, tokens, nodes);
+    }
+    if k == L_BRACK {
+        return array_type(text, tokens, nodes, cursor);
+    }
+    let p = cursor.take(tokens, L_PAREN);
+    let p = type_entries(text, tokens, nodes, p);
+    tuple_end(tokens, nodes, p)
+}
+
+fn array_type(text: &[u8], tokens: &[u8], nodes: &mut [u8], cursor: Cursor) -> Cursor
+    ensures { λ r. ⌜ Reads arrayType (now (text .entry)) (now (tokens .entry)) cursor (now (nodes .entry)) r (now (nodes .exit)) ⌝ }
+{
+    if cursor.status != READING {
+        return cursor;
+    }
+    let p = cursor.take(tokens, L_BRACK);
+    let p = type_expr(text, tokens, nodes, p);
+    let p = p.take(tokens, SEMICOLON);
+    let p = array_size(text, tokens, nodes, p);
+    let p = p.take(tokens, R_BRACK);
+    p.whole(tokens, nodes, node_kind::FIXED_ARRAY)
+}
+
+// An expression that is exactly a numeral without a suffix.
+fn array_size(text: &[u8], tokens: &[u8], nodes: &mut [u8], cursor: Cursor) -> Cursor
+    ensures { λ r. ⌜ Reads size (now (text .entry)) (now (tokens .entry)) cursor (now (nodes .entry)) r (now (nodes .exit)) ⌝ }
+{
+    let e = expr(text, tokens, nodes, cursor);
+    if e.status != READING {
+        return e;
+    }
+    let p = cursor.outside();
+    let p = p.count(tokens, nodes);
+    p.agree(e, cursor.nest)
+}
+
+fn type_entries(text: &[u8], tokens: &[u8], nodes: &mut [u8], cursor: Cursor) -> Cursor
+    ensures { λ r. ⌜ Reads (entries (rule type)) (now (text .entry)) (now (tokens .entry)) cursor (now (nodes .entry)) r (now (nodes .exit)) ⌝ }
+{
+    if cursor.status != READING {
+        return cursor;
+    }
+    let mut p = type_expr(text, tokens, nodes, cursor);
+    if p.status == FAILED {
+        return cursor;
+    }
+    while p.status == READING {
+        let q = p.take(tokens, COMMA);
+        let q = type_expr(text, tokens, nodes, q);
+        if q.status == FAILED {
+            return p;
+        }
+        p = q;
+    }
+    p
+}
+
+// After the entries of a tuple: (T) is T itself.
+fn tuple_end(tokens: &[u8], nodes: &mut [u8], cursor: Cursor) -> Cursor
+    ensures { λ r. ⌜ Puts tupleEnd (now (tokens .entry)) cursor (now (nodes .entry)) r (now (nodes .exit)) ⌝ }
+{
+    let k = cursor.peek(tokens);
+    if k == COMMA {
+        let p = cursor.take(tokens, COMMA);
+        let p = p.take(tokens, R_PAREN);
+        return p.whole(tokens, nodes, node_kind::TYPE_TUPLE);
+    }
+    let p = cursor.take(tokens, R_PAREN);
+    let q = p.alone();
+    if q.status == FAILED {
+        return p.whole(tokens, nodes, node_kind::TYPE_TUPLE);
+    }
+    q
+}
+
+fn pointers(tokens: &[u8], nodes: &mut [u8], cursor: Cursor) -> Cursor
+    ensures { λ r. ⌜ Puts stars (now (tokens .entry)) cursor (now (nodes .entry)) r (now (nodes .exit)) ⌝ }
+{
+    let mut p = cursor;
+    while p.status == READING {
+        let q = p.take(tokens, MUL);
+        let q = q.suffixed(tokens, nodes, node_kind::POINTER);
+        if q.status == FAILED {
+            return p;
+        }
+        p = q;
+    }
+    p
+}
+
+pub fn alloc_type_expr(text: &[u8], tokens: &[u8], nodes: &mut [u8], cursor: Cursor) -> Cursor
+    ensures { λ r. ⌜ Reads (rule alloc) (now (text .entry)) (now (tokens .entry)) cursor (now (nodes .entry)) r (now (nodes .exit)) ⌝ }
+{
+    if cursor.status != READING {
+        return cursor;
+    }
+    let p = cursor.enter(1);
+    let p = alloc_base(text, tokens, nodes, p);
+    let p = pointers(tokens, nodes, p);
+    p.leave(cursor)
+}
+
+fn alloc_base(text: &[u8], tokens: &[u8], nodes: &mut [u8], cursor: Cursor) -> Cursor
+    ensures { λ r. ⌜ Reads (namedType or tupleType alloc) (now (text .entry)) (now (tokens .entry)) cursor (now (nodes .entry)) r (now (nodes .exit)) ⌝ }
+{
+    if cursor.status != READING {
+        return cursor;
+    }
+    let k = cursor.peek(tokens);
+    if k == IDENTIFIER {
+        return cursor.named(text, tokens, nodes);
+    }
+    let p = cursor.take(tokens, L_PAREN);
+    let p = alloc_entries(text, tokens, nodes, p);
+    tuple_end(tokens, nodes, p)
+}
+
+fn alloc_entries(text: &[u8], tokens: &[u8], nodes: &mut [u8], cursor: Cursor) -> Cursor
+    ensures { λ r. ⌜ Reads (entries (rule alloc)) (now (text .entry)) (now (tokens .entry)) cursor (now (nodes .entry)) r (now (nodes .exit)) ⌝ }
+{
+    if cursor.status != READING {
+        return cursor;
+    }
+    let mut p = alloc_type_expr(text, tokens, nodes, cursor);
+    if p.status == FAILED {
+        return cursor;
+    }
+    while p.status == READING {
+        let q = p.take(tokens, COMMA);
+        let q = alloc_type_expr(text, tokens, nodes, q);
+        if q.status == FAILED {
+            return p;
+        }
+        p = q;
+    }
+    p
+}

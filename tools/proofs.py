@@ -1,0 +1,356 @@
+#!/usr/bin/env python3
+"""Writes the proof files of the readers (crates/parser/proofs/**/Proof*) from tools/readers.txt.
+
+A recipe says, for each return of a reader, its grammar rule in laws: the name of a call, a test or a loop stands for
+what it ensures, says or keeps. This finds the paths to those facts in what `rt dev parser --generated` writes, and
+answers the needs that are alike in all readers: what a call requires, that the measure falls, that a table keeps its length.
+
+usage: proofs.py          write the files
+       proofs.py check    say which files differ from what would be written, and fail if one does
+       proofs.py show F   the things known at each need of F"""
+import glob, os, re, subprocess, sys
+
+TOP = os.path.dirname(os.path.dirname(os.path.abspath(__file__)))
+CRATE = os.path.join(TOP, "crates/parser")
+GEN = os.path.join(TOP, "target/generated/Rattle.parser.proofs/proofs")
+MOD = "Rattle.parser.proofs."
+# a contract's relation: the law that makes a reading of it, and the law that says how far on it is
+READ = {"Reads": ("", "on"), "Puts": ("one-put", "on-put"), "Grown": ("one-grown", "on-grown"), "Step": ("one-step", "on-step"), "Free": ("one-free", "on-free")}
+OWN = {"Reads": "", "Puts": "λ text. ", "Grown": "λ text w. ", "Step": "λ text T. ", "Free": "λ text w T. "}
+MAKE = {"Puts": "puts", "Grown": "grown", "Step": "steps", "Free": "free"}
+WORD = r"(?<![\w.·-])[a-z][a-z0-9-]*(?![\w·-])"
+dash = lambda f: f.replace("_", "-")
+
+
+class Fn:
+    """A function of the crate's source: its module, parameters, the relation and grammar that its contract has, its calls."""
+    def __init__(self, module, name, params, head, body):
+        self.module, self.name, self.params = module, name, params
+        m = re.search(r"ensures \{ λ r\. ⌜ (?:Wanted kind \()?(\w+) (\(.*?\)|\w+) \((?:now|self)", head) or re.search(r"⌜ (?:Wanted kind \()?(\w+) (\(.*?\)|\w+) (?:cursor|self)\b", head)
+        self.relation, self.grammar = (m.group(1), m.group(2)) if m else ("", "")
+        self.body = body
+
+
+def source():
+    fns = {}
+    for path in sorted(glob.glob(os.path.join(CRATE, "src/*.rt"))):
+        text = open(path).read()
+        module = os.path.basename(path)[:-3]
+        for m in re.finditer(r"^( *)(?:pub |pub\(crate\) )?fn (\w+)\((.*?)\)(?: -> [^\n]*)?\n(.*?)^\1\{\n(.*?)^\1\}\n", text, re.M | re.S):
+            names = {}
+            for u in re.finditer(r"ghost use Rattle\.grammar\.specs\.(\w+)\.\{(.*?)\}", text):
+                for n in u.group(2).split(","): names[n.strip()] = u.group(1)
+            params = [p.split(":")[0].replace("mut ", "").strip() for p in m.group(3).split(",") if p.strip()]
+            where = "" if module == "lib" else module + "/" + ("Cursor/" if m.group(1) else "")
+            assert m.group(2) not in fns, m.group(2)
+            fns[m.group(2)] = Fn(where, m.group(2), params, m.group(4), m.group(5))
+            fns[m.group(2)].names = names
+    return fns
+
+
+def recipes():
+    """name -> {need: term}; `far` lists the readers that take a token."""
+    rs, cur = {}, None
+    for line in open(os.path.join(TOP, "tools/readers.txt")):
+        line = line.rstrip("\n")
+        if not line.strip() or line.startswith("#"): continue
+        if not line.startswith(" "):
+            head = line.split(":", 1)
+            cur = rs.setdefault(head[0].strip(), {})
+            if head[1].strip(): cur["rank"] = head[1].strip()
+        elif line.startswith("      "): cur[last] += " " + line.strip()
+        else:
+            last, term = line.strip().split(" = ", 1)
+            cur[last] = term
+    return rs
+
+
+class Lts:
+    """What is known at each need of a function, read off the generated records of its places."""
+    def __init__(self, path):
+        self.text = open(path).read()
+        self.records = {}
+        for m in re.finditer(r"pub record (\S+) : Type 0 where\n\s+pub before : (\S+)\n\s+pub (\S+) :", self.text):
+            self.records[m.group(1)] = (m.group(2), m.group(3))
+        last = list(re.finditer(r"\n +module _ ((?:\(\S+ :\s+Need-\S+\)\s*)+)where", self.text))[-1]
+        self.needs = re.findall(r"\((\S+) :", last.group(1))
+        self.loops = re.findall(r"^abbrev pub InvT-(\S+) :", self.text, re.M)
+        self.lifetimes = re.search(r"\(κs : Lifetimes\.Lfts (\d+)\)", self.text).group(1)
+        self.callees = re.findall(r'\n\s+"([\w:]+)"\)', self.text[last.end():])
+        self.callees = list(dict.fromkeys(self.callees))
+
+    def things(self, need):
+        cur = re.search(r"\n\s+Need-" + re.escape(need) + r" =\s+\(c : ([^ )]+)", self.text).group(1)
+        path, d, lent, keeps = "c", {}, False, []
+        while cur in self.records:
+            before, th = self.records[cur]
+            if re.match(r"nodes\d*$", th): lent = True
+            elif lent and not re.search(r"-known\d*$", th): keeps.append((path, th)); lent = False
+            if re.match(r"loop\d*$", th): keeps.append((path, th))
+            if re.match(r"if\d+$", th) or th.endswith("-test"):
+                d[th] = f"{path} .{th} ." + ("taken" if re.match(r"(Then|In-)", cur) else "left")
+            elif re.match(r"loop\d*$", th): d[th] = f"{path} .{th} .inv"; d["at-" + th] = f"{path} .{th}"
+            elif re.search(r"-known\d*$", th): d[th] = f"{path} .{th} .given"
+            elif not re.search(r"-arg\d*$|^nodes\d*$", th): d[th] = f"{path} .{th} .ensures"; d[th + "-result"] = f"{path} .{th} .result"
+            path += " .before"; cur = before
+        for k in ("pre", "args", "fits", "good"): d[k] = f"{path} .{k}"
+        return d, keeps
+
+
+def bind(term, d):
+    """let-bindings, each path relative to the one before, for the things that a term names."""
+    depth = lambda s: len(re.findall(r" \.before(?= )", s))
+    lets, at, cur = "", 0, "c"
+    for k in sorted(dict.fromkeys(w for w in re.findall(WORD, term) if w in d), key=lambda k: depth(d[k])):
+        n = depth(d[k]); rest = re.split(r" \.before(?= )", d[k])[-1] if n else d[k][1:]
+        if n > at: lets += f"let c{n} = {cur}{' .before' * (n - at)} in "; cur, at = f"c{n}", n
+        lets += f"let {k} = {cur}{rest} in "
+    return lets + term
+
+
+def qualified(fn, grammar):
+    """a grammar of the source, with the names as the proofs import them"""
+    def name(m): return {"Derive": "G.", "Grammar": "L."}.get(fn.names.get(m.group(0)), "") + m.group(0)
+    return re.sub(r"[A-Za-z]\w*", name, grammar)
+
+def calls(body):
+    """the calls of a function, by the names that the generated records give them, with their places"""
+    seen, out = {}, []
+    for m in re.finditer(r"(?:\.|(?<![\w:]))(\w+)\((?=[^)])|\.(\w+)\(\)", body):
+        f = m.group(1) or m.group(2)
+        if f not in FNS: continue
+        seen[f] = seen.get(f, 0) + 1
+        out.append((dash(f) + (str(seen[f]) if seen[f] > 1 else ""), m.start()))
+    return out
+
+def shape(fn, recipe):
+    """completes a recipe by what the source shows"""
+    r, body, cs = dict(recipe), fn.body, calls(fn.body)
+    idle = body.lstrip().startswith("if cursor.status != READING {\n        return cursor;")
+    first = "returns-2" if idle else "returns"
+    later = lambda n: f"returns-{n + (1 if idle else 0)}" if n + (1 if idle else 0) > 1 else "returns"
+    run = lambda a, b: " then ".join(c for c, i in cs if a <= i < b and c not in ("enter", "leave", "skip"))
+    if "while p.status == READING" in body and fn.grammar:
+        start, test = body.index("while p.status"), body.index("if q.status == FAILED")
+        m = re.match(r"\((many|list|fields|entries) (.*)\)$", fn.grammar)
+        inner = qualified(fn, m.group(2)) if m else ""
+        kind = m.group(1) if m else "many"
+        r.setdefault("of", {"many": inner.strip("()") if not inner.startswith("(") or inner.count("(") == 1 else inner[1:-1], "list": f"L.another {inner}", "fields": f"L.another (L.field {inner})", "entries": f"L.another {inner}"}[kind])
+        r.setdefault("round", run(start, test))
+        if kind == "many" and "&" not in fn.grammar:
+            r.setdefault(later(1), "rounds-end LOOP TEST ROUND OUT"); r.setdefault(later(2), "rounds-off LOOP OUT")
+        elif kind in ("list", "fields", "entries"):
+            law, head, one = ("entries" if kind == "entries" else "listed"), "(" + run(0, start) + ")", "if2" if idle else "if1"
+            comma = "" if kind == "entries" else " =skip"
+            r.setdefault(later(1), f"{law}-none {head} {one}")
+            r.setdefault(later(2), f"{law}-end {head} {one} LOOP TEST ROUND OUT{comma}")
+            r.setdefault(later(3), f"{law}-off {head} {one} LOOP OUT")
+    elif body.count("return ") == (1 if idle else 0) and "while" not in body and fn.relation in READ:
+        term = run(0, len(body))
+        m = re.match(r"\(rule (\w+)\)$", fn.grammar)
+        r.setdefault(first, f"by-rule G.{m.group(1)} refl if1 enter ({term}) leave" if m else term)
+    return r
+
+def looked(term):
+    """[not if2, is if3: X]: X by the next token's kind"""
+    while True:
+        m = re.search(r"\[((?:(?:not|is|was) if\d+(?:, )?)+): ([^\[\]]*)\]", term)
+        if not m: return term
+        out, tests = m.group(2), re.findall(r"(not|is|was) (if\d+)", m.group(1))
+        for how, t in reversed(tests): out = {"not": f"pass =peek ({t}, tt) tt", "was": f"pass =peek (omega (arith, {t})) tt", "is": f"only =peek {t} tt"}[how] + f" ({out})"
+        term = term[:m.start()] + "(" + out + ")" + term[m.end():]
+
+
+class Reader:
+    def __init__(self, fn, recipe, lts, ranks, far):
+        self.fn, self.lts, self.ranks, self.far = fn, lts, ranks, far
+        self.recipe = {k: looked(v) for k, v in shape(fn, recipe).items()}
+        self.idle = fn.body.lstrip().startswith("if cursor.status != READING {\n        return cursor;")
+        self.loop = bool(lts.loops)
+
+    def info(self, thing): return FNS.get(re.sub(r"\d+$", "", thing).replace("-", "_"))
+    def inv(self): return "loop" if self.fn.relation == "Reads" or not self.fn.relation else "(loop [])"
+
+    def chain(self, d, since=None):
+        """how far on the cursor is, by the calls made: a term, and whether a token was taken"""
+        out, far = [], False
+        ks = [k for k in d if not k.endswith("-result") and not k.startswith("at-")]
+        if since: ks = ks[:ks.index(since)]
+        for k in reversed(ks):
+            f = self.info(k)
+            if re.match(r"loop\d*$", k): out.append(f"({self.inv()} .on)")
+            elif f and f.name == "operator": out.append(f"on-operator (args .n) {k}"); far = True
+            elif f and f.name == "enter": out.append(f"at-in {k}")
+            elif f and f.name == "outside": out.append(f"at-shallow {k}")
+            elif f and f.name == "operand": out.append(f"at-operand prefixes {k}")
+            elif f and f.relation in READ: out.append(f"{READ[f.relation][1]} {k}"); far = far or f.name in self.far
+        return " and-on ".join(out) or "at-here", far
+
+    def answer(self, need, members):
+        d, keeps = self.lts.things(need)
+        term = self.recipe.get(need)
+        callee = re.sub(r"-requires(-\d+)?$", "", need)
+        callee = callee if callee != need else None
+        tests = [k for k in d if re.match(r"if\d+$", k)]
+        inside = "loop" in d
+        heads = [k for k in tests if inside and list(d).index(k) < list(d).index("loop")]
+        test = heads[-1] if heads else None
+        if term is None and callee:
+            if dash(callee) in members:
+                ch, far = self.chain(d)
+                rank = lambda f: self.ranks[f] if self.ranks[f].isdigit() else "_"
+                start = f"(was ({self.inv()} .on) {test})" if inside and not self.idle else "if1"
+                term = f"({'further' if far else 'lower'} {rank(dash(callee))} {rank(dash(self.fn.name))} (pre .0) {start} ({ch}) {'tt ' if far else ''}(omega arith), tt)"
+            else: term = "tt"
+        elif term is None and need == "returns" and self.idle: term = self.own("idle if1")
+        elif term is None and need.startswith("same-length"): term = "KEPT"
+        elif term is None and self.loop and "round" in self.recipe:
+            if need == "loop-holds": term = self.held("rounds-begin")
+            elif need == "loop-less": term = f"further 0 0 refl TEST ({self.chain(d, 'loop')[0]}) tt (omega arith)"
+            elif need == "loop-again": term = self.held("rounds-next LOOP ROUND OUT KEPTIN")
+        if term is None and need.startswith("returns") and "term" in self.recipe: term = self.own(self.recipe["term"])
+        elif term is not None and need.startswith("returns") and need in self.recipe: term = self.own(term)
+        if term is None: term = "search needs"
+        if "round" in self.recipe: term = term.replace("ROUND", "(" + self.recipe["round"] + ")")
+        term = term.replace("LOOP", "loop" if self.fn.relation in ("Reads", "") else "(loop text)")
+        if test: term = term.replace("TEST", test)
+        if tests: term = term.replace("OUT", tests[0])
+        if "KEPT" in term:
+            names = []
+            for path, th in keeps:
+                k = f"kept{len(names) + 1}"
+                if re.match(r"loop\d*$", th):
+                    d[k] = f"{path} .{th} .inv"; names.append(f"{k}{'' if self.fn.relation in ('Reads', '') else ' []'} .kept")
+                    if "KEPTIN" in term: break
+                else:
+                    d[k] = f"{path} .{th} .kept" + " .1" * self.info(th).params.index("nodes") + " .0"; names.append(k)
+            term = re.sub("KEPTIN|KEPT\\b", "(" + " ∙ ".join(names) + ")", term).replace("KEPTONE", "kept1")
+        def wrap(m):
+            k = m.group(0); f = self.info(k)
+            return f"({READ[f.relation][0]} {k})" if k in d and f and f.relation in READ and READ[f.relation][0] else k
+        if not callee and need != "loop-less": term = re.sub(r"(?<![\w.·=-])[a-z][a-z0-9-]*(?![\w·-])", wrap, term)
+        term = re.sub(r"(?<![\w=])=(?=[a-z])", "", term)
+        return f"    -- {need}\n    (λ c{' κs' if callee else ''}. {bind(term, d)})\n"
+
+    def held(self, term): return (f"λ text. {term}" if self.fn.relation not in ("Reads", "") else term)
+    def own(self, term):
+        if term.startswith("!"): return term[1:]
+        r = self.fn.relation
+        return f"{MAKE[r]} ({OWN[r]}{term})" if r in MAKE else term
+
+    def invariants(self, kind):
+        """the loop's invariant and measure: the rounds of the grammar that the contract repeats"""
+        if not self.loop: return ""
+        free = self.fn.relation not in ("Reads", "")
+        names = self.recipe.get("vars", "tokens nodes₀ p₀ nodes p" if free else "text tokens nodes₀ p₀ nodes p")
+        inv = self.recipe.get("Inv-loop") or ("(text : List ℕ) → " if free else "") + f"Looping text tokens ({self.recipe['of']}) p₀ nodes₀ p nodes"
+        measure = self.recipe.get("μ-loop", "size tokens p 0")
+        return f"\nabbrev Inv-loop : {kind}.InvT-loop\nInv-loop {names} = {inv}\n\nabbrev μ-loop : {kind}.MeasureT-loop\nμ-loop {names} = {measure}\n"
+
+
+def exports():
+    t = open(os.path.join(CRATE, "proofs/Reading.antt")).read()
+    return [x.strip().split(" as ")[-1] for m in re.finditer(r"pub use \S+\.\{(.*?)\}", t, re.S) for x in m.group(1).split(",")]
+
+def uses(body):
+    names = []
+    for n in exports():
+        core = n.strip("_")
+        if re.search(r"(?<![\w.·?-])" + re.escape(core) + r"(?![\w·?-])", body): names.append(n)
+    s = "use " + MOD + "Reading.{" + ", ".join(names) + "}\n"
+    for a, m in (("G", "Derive"), ("L", "Grammar")):
+        if f"{a}." in body: s += f"use Rattle.grammar.specs.{m} as {a}\n"
+    return s
+
+def alone(fn, recipe):
+    path, f = fn.module + fn.name, dash(fn.name)
+    lts = Lts(f"{GEN}/{path}/Lts.antt")
+    r = Reader(fn, recipe, lts, {}, FAR)
+    opens = " ".join(["body"] + recipe.get("opens", "").split()) if fn.module != "cursor/" else recipe.get("opens", "")
+    s = r.invariants("tie") + f"\npub {f}-spec : {{M : Type 1}} → statement M\n" + (f"unfolding {opens}\n" if opens else "") + f"{f}-spec = tie.close (tie.spec" + (" Inv-loop μ-loop" if r.loop else "") + "\n"
+    s += "".join(r.answer(n, []) for n in lts.needs).rstrip() + ")\n"
+    mod = MOD + path.replace("/", ".")
+    return {f"{path}/Proof.antt": f"-- `{fn.name}` meets its contract. Assumes nothing.\n" + uses(s) + f"use {mod}.Statement.{{statement}}\nuse {mod}.Tie as tie\n" + s}
+
+def cycle(fns, rs):
+    """one file for each reader of a cycle of calls, one for their measures, and one that ties them"""
+    fns = sorted(fns, key=lambda f: f.name)
+    where = fns[0].module
+    name = "".join("+" + f.name for f in fns)
+    mod, files = MOD + (where + name).replace("/", "."), {}
+    members = [dash(f.name) for f in fns]
+    ranks = {dash(f.name): rs[f.name]["rank"] for f in fns}
+    at = {dash(f.name): MOD + (where + f.name).replace("/", ".") for f in fns}
+    lts = {dash(f.name): Lts(f"{GEN}/{where}{name}/Lts-{f.name}.antt") for f in fns}
+    s = "-- The measures of a cycle of readers: by the tokens left, then by rank; and what is given and asked of each. Assumes nothing.\n"
+    s += "use Prim.Native.Nat.{ℕ, _<_, _+_}\nuse borrow.Fn.Kinds.{In}\nuse borrow.Fn.PlainCycle.{Measures, is, falls, and}\nuse " + MOD + "Falls.{size}\n"
+    for f in members: s += f"use {at[f]}.Reads as {f}\nuse {at[f]}.Kinds as {f}-kinds\n"
+    for f, fn in zip(members, fns):
+        n, arg = lts[f].lifetimes, lambda x: "a" + " .1" * fn.params.index(x) + " .0"
+        rank = re.sub(r"\bn\b", arg("n"), ranks[f]) if "n" in fn.params else ranks[f]
+        s += f"\nabbrev pub μ-{f} : Measures {n} {f}-kinds.ps ℕ\nμ-{f} κs a = size ({arg('tokens')} .now) ({arg('cursor')}) {rank}\n"
+        s += f"\nabbrev pub {f}-at : ℕ → In {n} {f}-kinds.ps\n{f}-at t = and {n} {f}-kinds.ps (is {n} {f}-kinds.ps μ-{f} t) {f}.Pre\n"
+        s += f"\nabbrev pub {f}-below : ℕ → In {n} {f}-kinds.ps\n{f}-below t = and {n} {f}-kinds.ps (falls {n} {f}-kinds.ps _<_ μ-{f} t) {f}.Pre\n"
+    files[f"{where}{name}/Proof/Sizes.antt"] = s
+    cap = lambda f: f.replace("-", "_").capitalize()
+    for f, fn in zip(members, fns):
+        r = Reader(fn, rs[fn.name], lts[f], ranks, FAR)
+        given, own = [], {f"use {at[f]}.Reads as {f}"}
+        below = []
+        for c in lts[f].callees:
+            parts = c.split("::"); g = dash(parts[-1])
+            crate = "Rattle.parser.proofs." if parts[0] == "parser" else f"Rattle.{parts[0]}.proofs."
+            if g in members and parts[0] == "parser" and FNS[parts[-1]].module == where: given += [f"{g}-below t", f"{g}.Post"]; below.append(f"{g}-below"); own.add(f"use {at[g]}.Reads as {g}")
+            else: given += [f"{g}-reads.Asked", f"{g}-reads.Learnt"]; own.add(f"use {crate}{'.'.join(parts[1:])}.Reads as {g}-reads")
+        s = f"\nabbrev given : ℕ → lts.Claims\ngiven t = ({', '.join(given)})\n" + r.invariants("lts")
+        opens = " ".join(["body"] + rs[fn.name].get("opens", "").split())
+        s += f"\npub {f}-spec : {{M : Type 1}} (t : ℕ) → lts.Closed (given t) ({f}-at t) {f}.Post M\nunfolding {opens}\n{f}-spec t = lts.spec (given t) ({f}-at t) {f}.Post" + (" Inv-loop μ-loop" if r.loop else "") + "\n"
+        s += "".join(r.answer(n, members) for n in lts[f].needs)
+        head = f"-- The reader `{fn.name}` of the cycle. Assumes nothing.\n" + uses(s + " ℕ") + "\n".join(sorted(own)) + f"\nuse {mod}.Lts-{fn.name} as lts\nuse {mod}.Proof.Sizes.{{" + ", ".join([f"{f}-at"] + sorted(set(below))) + "}\n"
+        files[f"{where}{name}/Proof/{cap(f)}.antt"] = head + s
+    spec = dash(name)
+    s = "-- The proof of a cycle of readers: a file for each, and their measures in Sizes. Assumes nothing.\nmod Sizes\n" + "".join(f"mod {cap(f)}\n" for f in members)
+    s += "use Sizes.{" + ", ".join("μ-" + f for f in members) + "}\n" + "".join(f"use {cap(f)}.{{{f}-spec}}\n" for f in members)
+    s += f"use {mod}.{{statement}}\nuse {mod}.Tie.{{close}}\n\npub {spec}-spec : {{M : Type 1}} → statement M\n{spec}-spec = close " + " ".join("μ-" + f for f in members) + " " + " ".join(f + "-spec" for f in members) + "\n"
+    files[f"{where}{name}/Proof.antt"] = s
+    return files
+
+
+FNS = source()
+FAR = set()
+
+def main():
+    rs = recipes()
+    FAR.update(rs.pop("far")["names"].split())
+    only = sys.argv[2:] if len(sys.argv) > 2 else None
+    if sys.argv[1:2] == ["show"]:
+        for p in glob.glob(f"{GEN}/**/Lts*.antt", recursive=True):
+            if f"/{sys.argv[2]}/" in p or p.endswith(f"Lts-{sys.argv[2]}.antt"):
+                lts = Lts(p); print(lts.loops, lts.needs)
+                for n in lts.needs:
+                    d, _ = lts.things(n); print(n)
+                    for k, v in d.items(): print("    ", k, "=", v)
+        return
+    groups, cycles = [], {}
+    for name, r in rs.items():
+        if "rank" in r: cycles.setdefault(r["rank"].split()[0], []).append(name); r["rank"] = " ".join(r["rank"].split()[1:])
+        else: groups.append(name)
+    files = {}
+    for name in groups:
+        if only and name not in only: continue
+        files.update(alone(FNS[name], rs[name]))
+    for c, names in cycles.items():
+        if only and c not in only: continue
+        files.update(cycle([FNS[n] for n in names], rs))
+    bad = []
+    for path, text in files.items():
+        full = os.path.join(CRATE, "proofs", path)
+        old = open(full).read() if os.path.exists(full) else None
+        if old == text: continue
+        bad.append(path)
+        if sys.argv[1:2] != ["check"]:
+            os.makedirs(os.path.dirname(full), exist_ok=True); open(full, "w").write(text)
+    print(("differ: " if sys.argv[1:2] == ["check"] else "written: ") + (", ".join(bad) or "none"))
+    if bad and sys.argv[1:2] == ["check"]: sys.exit(1)
+
+if __name__ == "__main__": main()
