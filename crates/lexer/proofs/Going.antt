@@ -6,8 +6,8 @@ use native.Mathlib.Omega.{arith}
 use lib.Dec.{lit<}
 use lib.ListN.{length, take, drop, length-append, length-drop, drop-of-length-le}
 use lib.Seq.{drop-drop}
-use Rattle.tables.specs.Tables.{Token, Diagnostic, encodeToken, encodeDiagnostic, stored, kept, cleared}
-use Rattle.tables.proofs.Laws.{laid, laid-length, laid-none, laid-more, laid-kept, token-size, diagnostic-size, cleared-all}
+use Rattle.tables.specs.Tables.{Token, Diagnostic, encodeToken, encodeDiagnostic, laid, stored, kept, cleared}
+use Rattle.tables.proofs.Laws.{laid-length, laid-none, laid-more, laid-kept, token-size, diagnostic-size, cleared-all}
 use Rattle.utf8.specs.Utf8.{Rest}
 use Rattle.utf8.proofs.Laws.{rest-none, rest-char, rest-more, rest-end}
 use Rattle.numeral.specs.Numeral.{numeralOf}

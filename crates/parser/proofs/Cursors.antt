@@ -9,7 +9,7 @@ use lib.Dec.{eqb}
 use lib.ListN.{replicate, length-append, length-replicate}
 use borrow.Author.Tests.{eq-eqb, ne-eqb}
 use Rattle.grammar.specs.Derive.{Token, S, part, enter, next, marked, emit, closed}
-use Rattle.parser.specs.Read.{MAX16, MAX64, no-node, Upto, Represents, up, past, with-mark, with-part, counted, closed-at, entered}
+use Rattle.parser.specs.Read.{MAX16, MAX64, Upto, Represents, up, past, with-mark, with-part, counted, closed-at, entered}
 use Rattle.parser.specs.declared.cursor.Cursor.{Cursor}
 
 -- ---- numbers up to a limit
@@ -75,6 +75,6 @@ represents-closed k e f v =
 -- every cursor stands for some state
 pub some : (p : Cursor) → (s : S) × Represents p s
 some p = (
-  record { at = p .at; nodes = replicate (p .count) no-node; unknown = []; frame = record { first = p .first; parts = p .parts; mark = p .mark; from = p .from; to = p .to } },
+  record { at = p .at; nodes = replicate (p .count) (record { kind = 0; start = 0; end = 0; children = 0; value = 0 }); unknown = []; frame = record { first = p .first; parts = p .parts; mark = p .mark; from = p .from; to = p .to } },
   record { at = refl; first = refl; parts = near; mark = near; from = near; to = near; count = rw length-replicate near },
 )

@@ -9,4 +9,5 @@ pub mod Shapes
 pub mod Steps
 pub mod Prefixes
 pub mod Levels
+pub mod Finish
 pub mod Reading

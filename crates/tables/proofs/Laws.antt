@@ -9,7 +9,7 @@ use native.Mathlib.Decide.{decLt}
 use lib.ListN.{length, getD, take, drop, set, replicate, length-append, length-take, length-drop, length-replicate, length-set, List·getD-eq-default}
 use lib.Seq.{take-nil, take-all, take-append-le, take-append-add, drop-append-add, take-at, drop-at, drop-drop, sets, sets-eq, take-suc-set, getD-take, getD-drop, ext-getD}
 use borrow.Author.Tests.{lt-ltb, le-ltb}
-use Rattle.tables.specs.Tables.{Token, Node, Diagnostic, le16, le64, encodeToken, encodeNode, encodeDiagnostic, joined, filled, table, stored, cleared, kept, number, entryAt, decodeToken, decodeNode, decodeDiagnostic, tokenAt, nodeAt, diagnosticAt, tokenTable, nodeTable, diagnosticTable, tabulate, tokensOf}
+use Rattle.tables.specs.Tables.{Token, Node, Diagnostic, le16, le64, encodeToken, encodeNode, encodeDiagnostic, joined, filled, table, laid, stored, cleared, kept, number, entryAt, decodeToken, decodeNode, decodeDiagnostic, tokenAt, nodeAt, diagnosticAt, tokenTable, nodeTable, diagnosticTable, tabulate, tokensOf}
 
 abbrev zeros : ℕ → List ℕ
 zeros n = replicate n 0
@@ -110,10 +110,14 @@ filled-is n b h =
     let e : n ≡ length b + (n - length b) = omega arith in
     ap (λ (m : ℕ). take m (b ++ zeros n)) e ∙ take-append-add b (zeros n) (n - length b) ∙ ap (λ (l : List ℕ). b ++ l) (take-zeros (n - length b) n (omega arith))
 
+joined-append : {A : Type 0} (f : A → List ℕ) (l m : List A) → joined f (l ++ m) ≡ joined f l ++ joined f m
+unfolding joined
+joined-append f [] m = refl
+joined-append f (a ∷ l) m = ap (λ (x : List ℕ). f a ++ x) (joined-append f l m) ∙ sym (append-assoc (f a) (joined f l) (joined f m))
+
 joined-snoc : {A : Type 0} (f : A → List ℕ) (l : List A) (a : A) → joined f (l ++ (a ∷ [])) ≡ joined f l ++ f a
 unfolding joined
-joined-snoc f [] a = append-nil (f a)
-joined-snoc f (b ∷ l) a = ap (λ (x : List ℕ). f b ++ x) (joined-snoc f l a) ∙ sym (append-assoc (f b) (joined f l) (f a))
+joined-snoc f l a = joined-append f l (a ∷ []) ∙ ap (λ (x : List ℕ). joined f l ++ x) (append-nil (f a))
 
 joined-length : {A : Type 0} (f : A → List ℕ) (w : ℕ) → ((a : A) → length (f a) ≡ w) → (l : List A) → length (joined f l) ≡ length l * w
 unfolding joined
@@ -124,9 +128,11 @@ in-room : {A : Type 0} (f : A → List ℕ) (w : ℕ) → 0 < w → ((a : A) →
 in-room f w some-size each n l =
     subst (λ (m : ℕ). m ≤ n) (sym (joined-length f w each (take (n / w) l))) (le-div-iff-mul-le some-size .0 (omega (arith, length-take (n / w) l)))
 
--- the table t with the entries l, as many as there is room for, laid over its front
-pub laid : {A : Type 0} → ℕ → (A → List ℕ) → List ℕ → List A → List ℕ
-laid w f t l = joined f (take (length t / w) l) ++ drop (length (joined f (take (length t / w) l))) t
+-- the first of two lists and some of the second
+begins : {A : Type 0} (n : ℕ) (l m : List A) → (x : List A) × (take n (l ++ m) ≡ take n l ++ x)
+begins zero l m = ([], refl)
+begins (suc n) [] m = (take (suc n) m, refl)
+begins (suc n) (a ∷ l) m = let (x, e) = begins n l m in (x, ap (λ (y : List _). a ∷ y) e)
 
 module _ {A : Type 0} (f : A → List ℕ) (w : ℕ) (some-size : 0 < w) (each : (a : A) → length (f a) ≡ w) (t : List ℕ) where
   pub laid-length : (l : List A) → length (laid w f t l) ≡ length t
@@ -157,6 +163,16 @@ module _ {A : Type 0} (f : A → List ℕ) (w : ℕ) (some-size : 0 < w) (each :
             (drop-append-add b (drop (length b) t) (length (f a)) ∙ drop-drop (length (f a)) (length b) t ∙ ap (λ (k : ℕ). drop k t) (sym (length-append b (f a)))))
         | no p ↦ rw (laid-length l, le-ltb (length l) (length t / w) (omega arith), take-append-le (length t / w) l (a ∷ []) (omega arith))
       ]
+
+  -- a table begins with the first of its entries
+  pub laid-again : (l m : List A) → laid w f (laid w f t (l ++ m)) l ≡ laid w f t (l ++ m)
+  unfolding laid
+  laid-again l m =
+      let (x, e) = begins (length t / w) l m in
+      let a = joined f (take (length t / w) l) in
+      let d = drop (length (a ++ joined f x)) t in
+      rw (laid-length (l ++ m), e, joined-append f (take (length t / w) l) x, append-assoc a (joined f x) d)
+      (ap (λ (y : List ℕ). a ++ y) (drop-at a (joined f x ++ d) (length a) refl))
 
   pub laid-kept : (l : List A) → kept w (length l) (laid w f t l) ≡ table w f (length t) l
   unfolding kept cleared laid table

@@ -78,6 +78,11 @@ nodeTable n ns = table 16 encodeNode n ns
 abbrev pub diagnosticTable : ℕ → List Diagnostic → List ℕ
 diagnosticTable n ds = table 8 encodeDiagnostic n ds
 
+-- the table t with its first entries laid over what it had, as many as there is room for
+unfoldable pub laid : {A : Type 0} → ℕ → (A → List ℕ) → List ℕ → List A → List ℕ
+unfolding joined
+laid size f t l = joined f (take (length t / size) l) ++ drop (length (joined f (take (length t / size) l))) t
+
 -- ---- what the leaf functions do
 -- entry i is b, where there is room for it
 unfoldable pub stored : ℕ → List ℕ → ℕ → List ℕ → List ℕ

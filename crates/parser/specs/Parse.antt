@@ -1,0 +1,41 @@
+-- What parsing answers: from a text, its tokens and the node table's length, the answer and every byte of that table. Assumes nothing.
+use mathlib.Core.Path.{_≡_}
+use mathlib.Core.List.{List}
+use Prim.Native.Nat.{ℕ, min}
+use lib.ListN.{length, replicate}
+use Rattle.tables.specs.Tables.{Token, Node, table}
+use Rattle.grammar.specs.Derive.{Input}
+use Rattle.grammar.specs.Grammar.{Tree, Deep}
+use Rattle.parser.specs.Read.{input, entryOf, MAX64}
+use Rattle.parser.specs.declared.Parsed.{Parsed}
+use Rattle.parser.specs.declared.Parsed.the-variants as Parsed
+
+-- what a text's tokens are to the grammar
+pub data Verdict : Type 0 where
+  tree : List Node → Verdict
+  syntax deep : Verdict
+
+-- an attempt takes a token above the nest limit; or none does, and the grammar derives all tokens, or not
+pub data VerdictIs (x : Input) : Verdict → Type 0 where
+  is-deep : Deep x → VerdictIs x deep
+  is-tree : {ns : List Node} {us : List Token} → (Deep x → ⊥) → Tree x ns us → VerdictIs x (tree ns)
+  is-syntax : (Deep x → ⊥) → ((ns : List Node) (us : List Token) → Tree x ns us → ⊥) → VerdictIs x syntax
+
+-- the answer: a tree's nodes are all counted
+abbrev pub answerOf : Verdict → Parsed
+answerOf (tree ns) = Parsed.Tree (min (length ns) MAX64)
+answerOf syntax = Parsed.Syntax
+answerOf deep = Parsed.Deep
+
+-- the node table, of n bytes: as many as fit are stored, and what is not used is zero
+abbrev pub nodesOf : ℕ → Verdict → List ℕ
+nodesOf n (tree ns) = table 16 entryOf n ns
+nodesOf n syntax = replicate n 0
+nodesOf n deep = replicate n 0
+
+-- the answer r to a text with the token table w, with U in the node table of n bytes
+pub record ParsedIs (text w : List ℕ) (n : ℕ) (U : List ℕ) (r : Parsed) : Type 0 where
+  pub verdict : Verdict
+  pub is : VerdictIs (input text w) verdict
+  pub answer : r ≡ answerOf verdict
+  pub nodes : U ≡ nodesOf n verdict

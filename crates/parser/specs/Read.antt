@@ -1,0 +1,222 @@
+-- What a reader's contract says: how the cursor and the node table that it leaves stand to the grammar that it reads. Assumes nothing.
+use mathlib.Core.Path.{_≡_}
+use mathlib.Core.Bool.{Bool, true, false, cond}
+use mathlib.Core.List.{List}
+use Prim.Native.Nat.{ℕ, zero, suc, pred, _+_, _*_, _-_, _/_, _<_, _≤_, min}
+use lib.Dec.{eqb}
+use lib.ListN.{length}
+use Rattle.tables.specs.Tables.{Node, encodeNode, tokensOf, tokenAt, laid, stored}
+use Rattle.tables.specs.TokenKinds.{NOT, MINUS}
+use Rattle.grammar.specs.Derive.{Input, R, unary, G, S, Out, got, none, Derives, Takes}
+use Rattle.grammar.specs.Grammar.{body, nests}
+use Rattle.parser.specs.declared.cursor.Cursor.{Cursor}
+
+-- ---- attempts
+
+-- the deepest nest at which a token may be taken
+abbrev pub LIMIT : ℕ
+LIMIT = 64
+
+-- from s at nest n an attempt at g comes to o, and takes no token above the limit
+pub record Attempt (x : Input) (g : G) (n : ℕ) (s : S) (o : Out) : Type 0 where
+  pub derived : Derives body x g s o
+  pub within : (i m : ℕ) → Takes body x nests i m g n s → m ≤ LIMIT
+
+-- it takes one above the limit
+pub record Exceeds (x : Input) (g : G) (n : ℕ) (s : S) : Type 0 where
+  pub token : ℕ
+  pub nest : ℕ
+  pub above : LIMIT < nest
+  pub takes : Takes body x nests token nest g n s
+
+-- ---- tables
+
+-- a text and the table of its tokens, as the grammar has them
+abbrev pub input : List ℕ → List ℕ → Input
+input text w = record { text = text; tokens = tokensOf w }
+
+-- the largest numbers of 16 and of 64 bits
+abbrev pub MAX16 : ℕ
+MAX16 = 65535
+
+abbrev pub MAX64 : ℕ
+MAX64 = 18446744073709551615
+
+-- a node's entry; a field too large for its bits is the largest that they hold, which no node of a real text has (`fits` of grammar)
+unfoldable pub entryOf : Node → List ℕ
+entryOf n =
+    encodeNode (record { kind = n .kind; start = min (n .start) MAX16; end = min (n .end) MAX16; children = min (n .children) MAX16; value = min (n .value) MAX64 })
+
+-- the table begins with the nodes, as far as it has room
+pub record Holds (T : List ℕ) (ns : List Node) : Type 0 where
+  pub under : List ℕ
+  pub over : T ≡ laid 16 entryOf under ns
+
+-- ---- cursors
+
+abbrev pub READING : ℕ
+READING = 0
+
+abbrev pub FAILED : ℕ
+FAILED = 1
+
+abbrev pub DEEP : ℕ
+DEEP = 2
+
+-- the same number, or both at least l
+pub record Upto (l n m : ℕ) : Type 0 where
+  pub upto : min n l ≡ min m l
+
+-- a cursor stands for a state of the derivation, but for its nest and status; what it counts stops at the largest number
+pub record Represents (p : Cursor) (s : S) : Type 0 where
+  pub at : p .at ≡ s .at
+  pub first : p .first ≡ s .frame .first
+  pub parts : Upto MAX16 (p .parts) (s .frame .parts)
+  pub mark : Upto MAX64 (p .mark) (s .frame .mark)
+  pub from : Upto MAX16 (p .from) (s .frame .from)
+  pub to : Upto MAX16 (p .to) (s .frame .to)
+  pub count : Upto MAX64 (p .count) (length (s .nodes))
+
+-- what became of g, read with the cursor p, which stands for s, and the table T
+pub data Result (g : G) (text w : List ℕ) (p : Cursor) (s : S) (T : List ℕ) (r : Cursor) (U : List ℕ) : Type 0 where
+  matched : (t : S) → r .status ≡ READING → r .nest ≡ p .nest → Represents r t → Attempt (input text w) g (p .nest) s (got t)
+      → (Holds T (s .nodes) → Holds U (t .nodes)) → Result g text w p s T r U
+  failed : r .status ≡ FAILED → Attempt (input text w) g (p .nest) s none → (Holds T (s .nodes) → Holds U (s .nodes)) → Result g text w p s T r U
+  exceeded : r .status ≡ DEEP → Exceeds (input text w) g (p .nest) s → Result g text w p s T r U
+
+-- a reader of g, given the cursor p and the node table T, left r and U; what is not reading stays as it is
+pub data Reads (g : G) (text w : List ℕ) (p : Cursor) (T : List ℕ) (r : Cursor) (U : List ℕ) : Type 0 where
+  still : (p .status ≡ READING → ⊥) → r ≡ p → U ≡ T → Reads g text w p T r U
+  reads : p .status ≡ READING → ((s : S) → Represents p s → Result g text w p s T r U) → Reads g text w p T r U
+
+-- the same of one that looks at no spelling
+pub data Puts (g : G) (w : List ℕ) (p : Cursor) (T : List ℕ) (r : Cursor) (U : List ℕ) : Type 0 where
+  puts : ((text : List ℕ) → Reads g text w p T r U) → Puts g w p T r U
+
+-- nor at a token
+pub data Grown (g : G) (p : Cursor) (T : List ℕ) (r : Cursor) (U : List ℕ) : Type 0 where
+  grown : ((text w : List ℕ) → Reads g text w p T r U) → Grown g p T r U
+
+-- of one that leaves the node table alone
+pub data Step (g : G) (w : List ℕ) (p r : Cursor) : Type 0 where
+  steps : ((text T : List ℕ) → Reads g text w p T r T) → Step g w p r
+
+-- and looks at no token
+pub data Free (g : G) (p r : Cursor) : Type 0 where
+  free : ((text w T : List ℕ) → Reads g text w p T r T) → Free g p r
+
+-- ---- what the steps make of a cursor
+
+-- a token's kind is not 0: of 0 nothing is promised
+abbrev pub Wanted : ℕ → Type 0 → Type 0
+Wanted zero A = Unit {0}
+Wanted (suc k) A = A
+
+-- one more, up to l
+abbrev pub up : ℕ → ℕ → ℕ
+up l n = min (n + 1) l
+
+-- another status, if it was reading
+pub data Halted (status : ℕ) (p r : Cursor) : Type 0 where
+  was-halted : (p .status ≡ READING → ⊥) → r ≡ p → Halted status p r
+  halts : p .status ≡ READING → r .status ≡ status → Halted status p r
+
+-- past one token
+abbrev pub past : Cursor → Cursor
+past p =
+    record { at = p .at + 1; count = p .count; nest = p .nest; status = p .status; first = p .first; parts = p .parts; mark = p .mark; from = p .from; to = p .to }
+
+-- past a token of kind k: it is not there, it is too deep, or it is taken
+pub data Advanced (w : List ℕ) (k : ℕ) (p r : Cursor) : Type 0 where
+  not-reading : (p .status ≡ READING → ⊥) → r ≡ p → Advanced w k p r
+  not-there : p .status ≡ READING → (1 ≤ k → tokenAt w (p .at) .kind ≡ k → ⊥) → r .status ≡ FAILED → Advanced w k p r
+  too-deep : p .status ≡ READING → tokenAt w (p .at) .kind ≡ k → LIMIT < p .nest → r .status ≡ DEEP → Advanced w k p r
+  advanced : p .status ≡ READING → tokenAt w (p .at) .kind ≡ k → p .nest ≤ LIMIT → p .at < length w / 16 → r ≡ past p → Advanced w k p r
+
+abbrev pub with-mark : ℕ → Cursor → Cursor
+with-mark m p =
+    record { at = p .at; count = p .count; nest = p .nest; status = p .status; first = p .first; parts = p .parts; mark = m; from = p .from; to = p .to }
+
+-- one part more, from a to b
+abbrev pub with-part : ℕ → ℕ → Cursor → Cursor
+with-part a b p =
+    record { at = p .at; count = p .count; nest = p .nest; status = p .status; first = p .first; parts = up MAX16 (p .parts); mark = p .mark; from = cond (eqb (p .parts) 0) a (p .from); to = b }
+
+-- one node more
+abbrev pub counted : Cursor → Cursor
+counted p =
+    record { at = p .at; count = up MAX64 (p .count); nest = p .nest; status = p .status; first = p .first; parts = p .parts; mark = p .mark; from = p .from; to = p .to }
+
+-- all parts are now one, from a to b
+abbrev pub closed-at : ℕ → ℕ → Cursor → Cursor
+closed-at a b p =
+    record { at = p .at; count = up MAX64 (p .count); nest = p .nest; status = p .status; first = p .first; parts = 1; mark = 0; from = a; to = b }
+
+-- a node of what was gathered
+pub data Closed (k a b : ℕ) (p : Cursor) (T : List ℕ) (r : Cursor) (U : List ℕ) : Type 0 where
+  not-closed : (p .status ≡ READING → ⊥) → r ≡ p → U ≡ T → Closed k a b p T r U
+  closes : p .status ≡ READING → r ≡ closed-at a b p
+      → U ≡ stored 16 T (p .count) (encodeNode (record { kind = k; start = a; end = b; children = p .parts; value = p .mark })) → Closed k a b p T r U
+
+-- at the token i, with nothing gathered
+abbrev pub fresh-at : ℕ → Cursor → Cursor
+fresh-at i p =
+    record { at = i; count = p .count; nest = p .nest; status = p .status; first = i; parts = 0; mark = 0; from = 0; to = 0 }
+
+-- into a rule that adds d to the nest; nests past the limit are not told apart
+abbrev pub entered : ℕ → Cursor → Cursor
+entered d p =
+    record { at = p .at; count = p .count; nest = min (p .nest + d) (LIMIT + 1); status = p .status; first = p .at; parts = 0; mark = 0; from = 0; to = 0 }
+
+-- out of it again: what q gathered is one part more of what p did
+pub data Left (p q r : Cursor) : Type 0 where
+  left-still : (q .status ≡ READING → ⊥) → r ≡ q → Left p q r
+  left : q .status ≡ READING
+      → r ≡ record { at = q .at; count = q .count; nest = p .nest; status = q .status; first = p .first; parts = up MAX16 (p .parts); mark = p .mark; from = cond (eqb (p .parts) 0) (q .from) (p .from); to = q .to }
+      → Left p q r
+
+abbrev pub at-nest : ℕ → Cursor → Cursor
+at-nest n q =
+    record { at = q .at; count = q .count; nest = n; status = q .status; first = q .first; parts = q .parts; mark = q .mark; from = q .from; to = q .to }
+
+abbrev pub shallow : Cursor → Cursor
+shallow p = at-nest 0 p
+
+-- q at nest n, if e, which read the same tokens, came to the same place
+pub data Agreed (n : ℕ) (e q r : Cursor) : Type 0 where
+  agrees-not : (q .status ≡ READING → ⊥) → r ≡ q → Agreed n e q r
+  agrees-else : q .status ≡ READING → (e .at ≡ q .at → ⊥) → r .status ≡ FAILED → Agreed n e q r
+  agrees : q .status ≡ READING → e .at ≡ q .at → r ≡ at-nest n q → Agreed n e q r
+
+-- ---- prefixes
+
+-- at the operand of prefixes that end there; if they are past the limit, too deep
+pub data Restarted (e : ℕ) (p r : Cursor) : Type 0 where
+  restarts-deep : p .at < e → LIMIT < p .nest → Halted DEEP p r → Restarted e p r
+  restarts : (p .at < e → p .nest ≤ LIMIT) → r ≡ fresh-at e p → Restarted e p r
+
+-- past a prefix alone
+abbrev pub signed-at : ℕ → ℕ → ℕ → Cursor → Cursor
+signed-at i e m p =
+    record { at = e; count = p .count; nest = p .nest; status = p .status; first = i; parts = 0; mark = m; from = 0; to = 0 }
+
+-- a kind of token that is a prefix: 0 it is not, else the prefix's number and 1
+pub data Prefix (k r : ℕ) : Type 0 where
+  no-prefix : r ≡ 0 → (k ≡ NOT → ⊥) → (k ≡ MINUS → ⊥) → Prefix k r
+  a-not : r ≡ 1 → k ≡ NOT → Prefix k r
+  a-minus : r ≡ 2 → k ≡ MINUS → Prefix k r
+
+-- the tokens from a to b are prefixes, and the next is not
+pub record Prefixes (w : List ℕ) (a b : ℕ) : Type 0 where
+  pub up : a ≤ b
+  pub each : (i : ℕ) → a ≤ i → i < b → (r : ℕ) → Prefix (tokenAt w i .kind) r → r ≡ 0 → ⊥
+  pub over : Prefix (tokenAt w b .kind) 0
+
+-- what was read past the prefixes from p on is made the operand of each, the last first
+pub record Unwound (w : List ℕ) (p : Cursor) (e : ℕ) (q : Cursor) (T : List ℕ) (r : Cursor) (U : List ℕ) : Type 0 where
+  pub up : Prefixes w (p .at) e → p .status ≡ READING → (p .at < e → p .nest ≤ LIMIT) → (text T₀ : List ℕ)
+      → Reads (body unary) text w (fresh-at e p) T₀ q T → Reads (body unary) text w (fresh-at (p .at) p) T₀ r U
+
+-- at the first token
+abbrev pub start : Cursor
+start = record { at = 0; count = 0; nest = 0; status = READING; first = 0; parts = 0; mark = 0; from = 0; to = 0 }
