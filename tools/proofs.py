@@ -2,17 +2,16 @@
 """Writes the proof files of the readers (crates/parser/proofs/**/Proof*) from tools/readers.txt.
 
 A recipe says, for each return of a reader, its grammar rule in laws: the name of a call, a test or a loop stands for
-what it ensures, says or keeps. This finds the paths to those facts in what `rt dev parser --generated` writes, and
+what it ensures, says or keeps. This binds the paths to those facts, which tools/places.txt has from the checker, and
 answers the needs that are alike in all readers: what a call requires, that the measure falls, that a table keeps its length.
 
 usage: proofs.py          write the files
        proofs.py check    say which files differ from what would be written, and fail if one does
-       proofs.py show F   the things known at each need of F"""
+       proofs.py places   write tools/places.txt anew, after a change of the readers' code (some minutes)"""
 import glob, os, re, subprocess, sys
 
 TOP = os.path.dirname(os.path.dirname(os.path.abspath(__file__)))
 CRATE = os.path.join(TOP, "crates/parser")
-GEN = os.path.join(TOP, "target/generated/Rattle.parser.proofs/proofs")
 MOD = "Rattle.parser.proofs."
 # a contract's relation: the law that makes a reading of it, and the law that says how far on it is
 READ = {"Reads": ("", "on"), "Puts": ("one-put", "on-put"), "Grown": ("one-grown", "on-grown"), "Step": ("one-step", "on-step"), "Free": ("one-free", "on-free")}
@@ -65,36 +64,100 @@ def recipes():
     return rs
 
 
-class Lts:
-    """What is known at each need of a function, read off the generated records of its places."""
-    def __init__(self, path):
-        self.text = open(path).read()
-        self.records = {}
-        for m in re.finditer(r"pub record (\S+) : Type 0 where\n\s+pub before : (\S+)\n\s+pub (\S+) :", self.text):
-            self.records[m.group(1)] = (m.group(2), m.group(3))
-        last = list(re.finditer(r"\n +module _ ((?:\(\S+ :\s+Need-\S+\)\s*)+)where", self.text))[-1]
-        self.needs = re.findall(r"\((\S+) :", last.group(1))
-        self.loops = re.findall(r"^abbrev pub InvT-(\S+) :", self.text, re.M)
-        self.lifetimes = re.search(r"\(κs : Lifetimes\.Lfts (\d+)\)", self.text).group(1)
-        self.callees = re.findall(r'\n\s+"([\w:]+)"\)', self.text[last.end():])
-        self.callees = list(dict.fromkeys(self.callees))
+SAYS = {"e": "ensures", "t": "taken", "l": "left", "i": "inv", "g": "given"}
+
+
+class Places:
+    """What is known at each need of a function: things with their distance from the need, those that lend the node table marked."""
+    def __init__(self): self.lifetimes, self.loops, self.callees, self.needs, self.at = "0", [], [], [], {}
 
     def things(self, need):
-        cur = re.search(r"\n\s+Need-" + re.escape(need) + r" =\s+\(c : ([^ )]+)", self.text).group(1)
-        path, d, lent, keeps = "c", {}, False, []
-        while cur in self.records:
-            before, th = self.records[cur]
-            if re.match(r"nodes\d*$", th): lent = True
-            elif lent and not re.search(r"-known\d*$", th): keeps.append((path, th)); lent = False
-            if re.match(r"loop\d*$", th): keeps.append((path, th))
-            if re.match(r"if\d+$", th) or th.endswith("-test"):
-                d[th] = f"{path} .{th} ." + ("taken" if re.match(r"(Then|In-)", cur) else "left")
-            elif re.match(r"loop\d*$", th): d[th] = f"{path} .{th} .inv"; d["at-" + th] = f"{path} .{th}"
-            elif re.search(r"-known\d*$", th): d[th] = f"{path} .{th} .given"
-            elif not re.search(r"-arg\d*$|^nodes\d*$", th): d[th] = f"{path} .{th} .ensures"; d[th + "-result"] = f"{path} .{th} .result"
-            path += " .before"; cur = before
-        for k in ("pre", "args", "fits", "good"): d[k] = f"{path} .{k}"
+        """paths by name, and the paths of what keeps the node table's length"""
+        d, keeps = {}, []
+        for word in self.at[need]:
+            name, place = word.split("@")
+            depth, says = re.fullmatch(r"(\d+)(\w?)", place).groups()
+            path = "c" + " .before" * int(depth)
+            if name == "start":
+                for k in ("pre", "args", "fits", "good"): d[k] = f"{path} .{k}"
+                continue
+            thing = name.rstrip("*")
+            if name != thing: keeps.append((path, thing))
+            d[thing] = f"{path} .{thing} .{SAYS[says]}"
         return d, keeps
+
+    def line(self, name):
+        out = f"{name} {self.lifetimes} {','.join(self.loops) or '-'} {','.join(self.callees) or '-'}\n"
+        return out + "".join(f"  {n}: {' '.join(self.at[n])}\n" for n in self.needs)
+
+
+def generated(path):
+    """the same, read off the records that the checker makes of a function's places"""
+    text, p = open(path).read(), Places()
+    records = {m.group(1): (m.group(2), m.group(3)) for m in re.finditer(r"pub record (\S+) : Type 0 where\n\s+pub before : (\S+)\n\s+pub (\S+) :", text)}
+    last = list(re.finditer(r"\n +module _ ((?:\(\S+ :\s+Need-\S+\)\s*)+)where", text))[-1]
+    p.needs = re.findall(r"\((\S+) :", last.group(1))
+    p.loops = re.findall(r"^abbrev pub InvT-(\S+) :", text, re.M)
+    p.lifetimes = re.search(r"\(κs : Lifetimes\.Lfts (\d+)\)", text).group(1)
+    p.callees = list(dict.fromkeys(re.findall(r'\n\s+"([\w:]+)"\)', text[last.end():])))
+    for need in p.needs:
+        cur = re.search(r"\n\s+Need-" + re.escape(need) + r" =\s+\(c : ([^ )]+)", text).group(1)
+        depth, out, lent = 0, [], False
+        while cur in records:
+            before, th = records[cur]
+            mark = ""
+            if re.match(r"nodes\d*$", th): lent = True
+            elif lent and not re.search(r"-known\d*$", th): mark, lent = "*", False
+            if re.match(r"loop\d*$", th): mark = "*"
+            if re.match(r"if\d+$", th) or th.endswith("-test"): out.append(f"{th}{mark}@{depth}" + ("t" if re.match(r"(Then|In-)", cur) else "l"))
+            elif re.match(r"loop\d*$", th): out.append(f"{th}{mark}@{depth}i")
+            elif not re.search(r"-known\d*$|-arg\d*$|^nodes\d*$", th): out.append(f"{th}{mark}@{depth}e")
+            depth += 1; cur = before
+        p.at[need] = out + [f"start@{depth}"]
+    return p
+
+
+def stub(path, statement, name):
+    """a proof file with a hole, as the checker goes into a function's callers only if there is one"""
+    full = os.path.join(CRATE, "proofs", path, "Proof.antt")
+    if not os.path.exists(full):
+        os.makedirs(os.path.dirname(full), exist_ok=True)
+        open(full, "w").write(f"use {MOD}{path.replace('/', '.')}{statement}.{{statement}}\n\npub {dash(name)}-spec : {{M : Type 1}} → statement M\n{dash(name)}-spec = ?\n")
+
+
+def refresh(groups, cycles):
+    """has the checker write its records, and keeps what they say in tools/places.txt"""
+    for name in groups: stub(FNS[name].module + name, ".Statement", name)
+    for names in cycles.values():
+        cycle_name = "".join("+" + n for n in sorted(names))
+        stub(FNS[names[0]].module + cycle_name, "", cycle_name)
+    out = os.path.join(TOP, "target/generated")
+    subprocess.run(["rt", "dev", "parser", "--generated", out], cwd=TOP, stdout=subprocess.DEVNULL, stderr=subprocess.DEVNULL)
+    gen = os.path.join(out, "Rattle.parser.proofs/proofs")
+    found = {}
+    for path in glob.glob(gen + "/**/Lts*.antt", recursive=True):
+        m = re.search(r"/Lts-(\w+)\.antt$|/(\w+)/Lts\.antt$", path)
+        name = m.group(1) or m.group(2)
+        if name in READERS: found[name] = generated(path)
+    with open(os.path.join(TOP, "tools/places.txt"), "w") as h:
+        h.write("# Written by proofs.py places: for each reader its lifetimes, loops and callees, and at each need what is known there and how far back.\n")
+        for name in READERS:
+            if name in found: h.write(found[name].line(name))
+
+
+def places():
+    ps, cur = {}, None
+    for line in open(os.path.join(TOP, "tools/places.txt")):
+        if line.startswith("#"): continue
+        words = line.split()
+        if line.startswith("  "):
+            need = words[0][:-1]
+            cur.needs.append(need); cur.at[need] = words[1:]
+        else:
+            cur = ps[words[0]] = Places()
+            cur.lifetimes = words[1]
+            cur.loops, cur.callees = ([] if w == "-" else w.split(",") for w in words[2:4])
+    return ps
 
 
 def bind(term, d):
@@ -174,14 +237,13 @@ class Reader:
     def chain(self, d, since=None):
         """how far on the cursor is, by the calls made: a term, and whether a token was taken"""
         out, far = [], False
-        ks = [k for k in d if not k.endswith("-result") and not k.startswith("at-")]
+        ks = list(d)
         if since: ks = ks[:ks.index(since)]
         for k in reversed(ks):
             f = self.info(k)
             if re.match(r"loop\d*$", k): out.append(f"({self.inv()} .on)")
             elif f and f.name == "operator": out.append(f"on-operator (args .n) {k}"); far = True
             elif f and f.name == "enter": out.append(f"at-in {k}")
-            elif f and f.name == "outside": out.append(f"at-shallow {k}")
             elif f and f.name == "operand": out.append(f"at-operand prefixes {k}")
             elif f and f.relation in READ: out.append(f"{READ[f.relation][1]} {k}"); far = far or f.name in self.far
         return " and-on ".join(out) or "at-here", far
@@ -198,9 +260,8 @@ class Reader:
         if term is None and callee:
             if dash(callee) in members:
                 ch, far = self.chain(d)
-                rank = lambda f: self.ranks[f] if self.ranks[f].isdigit() else "_"
                 start = f"(was ({self.inv()} .on) {test})" if inside and not self.idle else "if1"
-                term = f"({'further' if far else 'lower'} {rank(dash(callee))} {rank(dash(self.fn.name))} (pre .0) {start} ({ch}) {'tt ' if far else ''}(omega arith), tt)"
+                term = f"({'further' if far else 'lower'} {self.ranks[dash(callee)]} {self.ranks[dash(self.fn.name)]} (pre .0) {start} ({ch}) {'tt ' if far else ''}(omega arith), tt)"
             else: term = "tt"
         elif term is None and need == "returns" and self.idle: term = self.own("idle if1")
         elif term is None and need.startswith("same-length"): term = "KEPT"
@@ -208,8 +269,7 @@ class Reader:
             if need == "loop-holds": term = self.held("rounds-begin")
             elif need == "loop-less": term = f"further 0 0 refl TEST ({self.chain(d, 'loop')[0]}) tt (omega arith)"
             elif need == "loop-again": term = self.held("rounds-next LOOP ROUND OUT KEPTIN")
-        if term is None and need.startswith("returns") and "term" in self.recipe: term = self.own(self.recipe["term"])
-        elif term is not None and need.startswith("returns") and need in self.recipe: term = self.own(term)
+        if need.startswith("returns") and need in self.recipe: term = self.own(term)
         if term is None: term = "search needs"
         if "round" in self.recipe: term = term.replace("ROUND", "(" + self.recipe["round"] + ")")
         term = term.replace("LOOP", "loop" if self.fn.relation in ("Reads", "") else "(loop text)")
@@ -264,7 +324,7 @@ def uses(body):
 
 def alone(fn, recipe):
     path, f = fn.module + fn.name, dash(fn.name)
-    lts = Lts(f"{GEN}/{path}/Lts.antt")
+    lts = PLACES[fn.name]
     r = Reader(fn, recipe, lts, {}, FAR)
     opens = " ".join(["body"] + recipe.get("opens", "").split()) if fn.module != "cursor/" else recipe.get("opens", "")
     s = r.invariants("tie") + f"\npub {f}-spec : {{M : Type 1}} → statement M\n" + (f"unfolding {opens}\n" if opens else "") + f"{f}-spec = tie.close (tie.spec" + (" Inv-loop μ-loop" if r.loop else "") + "\n"
@@ -281,14 +341,13 @@ def cycle(fns, rs):
     members = [dash(f.name) for f in fns]
     ranks = {dash(f.name): rs[f.name]["rank"] for f in fns}
     at = {dash(f.name): MOD + (where + f.name).replace("/", ".") for f in fns}
-    lts = {dash(f.name): Lts(f"{GEN}/{where}{name}/Lts-{f.name}.antt") for f in fns}
+    lts = {dash(f.name): PLACES[f.name] for f in fns}
     s = "-- The measures of a cycle of readers: by the tokens left, then by rank; and what is given and asked of each. Assumes nothing.\n"
     s += "use Prim.Native.Nat.{ℕ, _<_, _+_}\nuse borrow.Fn.Kinds.{In}\nuse borrow.Fn.PlainCycle.{Measures, is, falls, and}\nuse " + MOD + "Falls.{size}\n"
     for f in members: s += f"use {at[f]}.Reads as {f}\nuse {at[f]}.Kinds as {f}-kinds\n"
     for f, fn in zip(members, fns):
         n, arg = lts[f].lifetimes, lambda x: "a" + " .1" * fn.params.index(x) + " .0"
-        rank = re.sub(r"\bn\b", arg("n"), ranks[f]) if "n" in fn.params else ranks[f]
-        s += f"\nabbrev pub μ-{f} : Measures {n} {f}-kinds.ps ℕ\nμ-{f} κs a = size ({arg('tokens')} .now) ({arg('cursor')}) {rank}\n"
+        s += f"\nabbrev pub μ-{f} : Measures {n} {f}-kinds.ps ℕ\nμ-{f} κs a = size ({arg('tokens')} .now) ({arg('cursor')}) {ranks[f]}\n"
         s += f"\nabbrev pub {f}-at : ℕ → In {n} {f}-kinds.ps\n{f}-at t = and {n} {f}-kinds.ps (is {n} {f}-kinds.ps μ-{f} t) {f}.Pre\n"
         s += f"\nabbrev pub {f}-below : ℕ → In {n} {f}-kinds.ps\n{f}-below t = and {n} {f}-kinds.ps (falls {n} {f}-kinds.ps _<_ μ-{f} t) {f}.Pre\n"
     files[f"{where}{name}/Proof/Sizes.antt"] = s
@@ -317,30 +376,22 @@ def cycle(fns, rs):
 
 
 FNS = source()
-FAR = set()
+FAR, READERS, PLACES = set(), [], {}
 
 def main():
     rs = recipes()
     FAR.update(rs.pop("far")["names"].split())
-    only = sys.argv[2:] if len(sys.argv) > 2 else None
-    if sys.argv[1:2] == ["show"]:
-        for p in glob.glob(f"{GEN}/**/Lts*.antt", recursive=True):
-            if f"/{sys.argv[2]}/" in p or p.endswith(f"Lts-{sys.argv[2]}.antt"):
-                lts = Lts(p); print(lts.loops, lts.needs)
-                for n in lts.needs:
-                    d, _ = lts.things(n); print(n)
-                    for k, v in d.items(): print("    ", k, "=", v)
-        return
+    READERS.extend(rs)
     groups, cycles = [], {}
     for name, r in rs.items():
         if "rank" in r: cycles.setdefault(r["rank"].split()[0], []).append(name); r["rank"] = " ".join(r["rank"].split()[1:])
         else: groups.append(name)
+    if sys.argv[1:2] == ["places"]: return refresh(groups, cycles)
+    PLACES.update(places())
     files = {}
     for name in groups:
-        if only and name not in only: continue
         files.update(alone(FNS[name], rs[name]))
     for c, names in cycles.items():
-        if only and c not in only: continue
         files.update(cycle([FNS[n] for n in names], rs))
     bad = []
     for path, text in files.items():

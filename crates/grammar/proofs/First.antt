@@ -1,13 +1,13 @@
 -- With which kinds of token a grammar can begin: before any other it takes nothing, and derives none unless it may come to nothing. Assumes nothing.
 use Prim.Native.Nat.{ℕ}
-use mathlib.Core.Path.{_≡_, refl, sym, ap, subst, _∙_}
+use mathlib.Core.Path.{_≡_, refl, sym, subst, _∙_}
 use mathlib.Core.Bool.{Bool, true, false, cond, not, _&&_, _||_}
 use mathlib.Core.List.{List, [], _∷_, _++_}
 use lib.Dec.{T, eqb}
 use borrow.Author.Tests.{eq-eqb, ne-eqb}
 use Rattle.tables.specs.TokenKinds.{NUMBER, CONST, FALSE, FN, IF, LET, NEW, RETURN, STRUCT, TRUE, WHILE, LOOP, FOR, BREAK, CONTINUE, USE, IDENT, NOT, MINUS, LPAREN, LBRACE, LBRACK}
 use Rattle.grammar.specs.Derive.{Input, token, R, type, alloc, pattern, expr, stmt, unary, initLet, initAction, forStep, param, unit, item, level}
-use Rattle.grammar.specs.Derive.{Step, take, close, tick, alone, done, G, step, _&_, _or_, many, both, rule, S, Out, got, none, yields, agree, enter, leave}
+use Rattle.grammar.specs.Derive.{Step, take, close, tick, alone, done, G, step, _&_, _or_, many, both, rule, S, Out, got, none, yields, agree, leave}
 use Rattle.grammar.specs.Derive.{Derives, stepped, and-not, and-then, or-first, or-else, no-more, one-more, agreed, ruled}
 use Rattle.grammar.specs.Derive.{Takes, here, and-left, and-right, or-left, or-right, now, later, both-first, inside}
 use Rattle.grammar.specs.Grammar.{body, nests}

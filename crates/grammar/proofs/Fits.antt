@@ -9,6 +9,7 @@ use lib.Dec.{eqb}
 use lib.ListN.{length}
 use borrow.Author.Tests.{eqb-true}
 use Rattle.patterns.specs.Bytes.{bytes, same}
+pub use Rattle.tables.proofs.Laws.{NodeFits}
 use Rattle.patterns.proofs.Tests.{T-of, of-T}
 use Rattle.grammar.specs.Kinds.{Named, Count, Literal, LiteralFelt, LiteralU32}
 use Rattle.grammar.specs.Derive.{Token, Node, Input, token, spelling, typeName, literalKind, R, Act, skip, leaf, named, literal, count, index, mark}
@@ -20,14 +21,6 @@ use Rattle.grammar.proofs.On.{On, off, on, on-of, on-map, on-if, on-agr
 use Rattle.grammar.proofs.Progress.{grows}
 use Rattle.grammar.proofs.Whole.{solid, rule-eats}
 use Rattle.grammar.proofs.Spans.{Ordered, Within, Each, no-node, node, add, pick-le, spans}
-
--- kind u8; start, end and children u16; value u64
-pub record NodeFits (a : Node) : Type 0 where
-  pub kind-fits : a .kind < 256
-  pub start-fits : a .start < 65536
-  pub end-fits : a .end < 65536
-  pub children-fits : a .children < 65536
-  pub value-fits : a .value < 2 ^ 64
 
 each-apply : {P Q : Node → Type 0} {ns : List Node} → Each (λ a. P a → Q a) ns → Each P ns → Each Q ns
 each-apply no-node no-node = no-node

@@ -9,7 +9,8 @@ use lib.Dec.{eqb}
 use lib.ListN.{replicate, length-append, length-replicate}
 use borrow.Author.Tests.{eq-eqb, ne-eqb}
 use Rattle.grammar.specs.Derive.{Token, S, part, enter, next, marked, emit, closed}
-use Rattle.parser.specs.Read.{MAX16, MAX64, Upto, Represents, up, past, with-mark, with-part, counted, closed-at, entered}
+use Rattle.parser.specs.Parse.{MAX16, MAX64}
+use Rattle.parser.specs.Read.{Upto, Represents, up, past, with-mark, with-part, counted, closed-at, entered}
 use Rattle.parser.specs.declared.cursor.Cursor.{Cursor}
 
 -- ---- numbers up to a limit

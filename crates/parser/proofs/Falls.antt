@@ -14,7 +14,8 @@ use Rattle.grammar.specs.Grammar.{body}
 use Rattle.grammar.proofs.On.{on-of}
 use Rattle.grammar.proofs.Progress.{eats, sane?, grows}
 use Rattle.grammar.proofs.Whole.{solid, takes-one}
-use Rattle.parser.specs.Read.{input, READING, Represents, Result, matched, failed, exceeded, Reads, still, reads, Puts, puts, Grown, grown, Step, steps, Free, free, fresh-at, at-nest, shallow}
+use Rattle.parser.specs.Parse.{input}
+use Rattle.parser.specs.Read.{READING, Represents, Result, matched, failed, exceeded, Reads, still, reads, Puts, puts, Grown, grown, Step, steps, Free, free, fresh-at, at-nest}
 use Rattle.parser.specs.declared.cursor.Cursor.{Cursor}
 use Rattle.parser.proofs.Laws.{clash, some}
 
@@ -77,9 +78,6 @@ module _ {w : List ℕ} where
   -- into a rule, at whatever nest
   pub at-in : {n : ℕ} {p q : Cursor} → q ≡ at-nest n (fresh-at (p .at) p) → Ahead false w p q
   at-in e = same-place (ap (λ (r : Cursor). r .at) e) (ap (λ (r : Cursor). r .status) e)
-
-  pub at-shallow : {p q : Cursor} → q ≡ shallow p → Ahead false w p q
-  at-shallow e = same-place (ap (λ (r : Cursor). r .at) e) (ap (λ (r : Cursor). r .status) e)
 
   pub at-here : {p : Cursor} → Ahead false w p p
   at-here = same-place refl refl

@@ -1,16 +1,17 @@
 -- From the reading of all items to the answer; and two answers agree. Assumes nothing.
 use mathlib.Core.Path.{_≡_, refl, sym, ap, _∙_}
-use mathlib.Core.List.{List, []}
-use Prim.Native.Nat.{ℕ, _*_, _/_, _<_, _≤_, min}
+use mathlib.Core.List.{List}
+use Prim.Native.Nat.{ℕ, _*_, _/_, _<_, min}
 use native.Mathlib.Omega.{arith}
 use lib.ListN.{length, replicate}
-use Rattle.tables.specs.Tables.{Token, Node, kept, cleared, table}
+use Rattle.tables.specs.Tables.{Token, Node, kept, table}
 use Rattle.tables.proofs.Laws.{tokens-length, cleared-all}
 use Rattle.grammar.specs.Derive.{Input, S, Out, got, begin, Derives}
 use Rattle.grammar.specs.Grammar.{body, file, Tree, Deep}
 use Rattle.grammar.proofs.Unique.{unique, same}
 use Rattle.grammar.proofs.Whole.{tree-one}
-use Rattle.parser.specs.Read.{Attempt, input, entryOf, MAX64, READING, Represents, Result, matched, failed, exceeded, Reads, still, reads, start}
+use Rattle.parser.specs.Parse.{input, entryOf}
+use Rattle.parser.specs.Read.{Attempt, READING, Represents, Result, matched, failed, exceeded, Reads, still, reads, start}
 use Rattle.parser.specs.Parse.{Verdict, tree, syntax, deep, VerdictIs, is-deep, is-tree, is-syntax, answerOf, nodesOf, ParsedIs}
 use Rattle.parser.specs.declared.cursor.Cursor.{Cursor}
 use Rattle.parser.specs.declared.Parsed.{Parsed}

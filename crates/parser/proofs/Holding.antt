@@ -7,7 +7,8 @@ use native.Mathlib.Decide.{decLt}
 use lib.ListN.{length}
 use Rattle.tables.specs.Tables.{Node, encodeNode, laid, stored, kept, table}
 use Rattle.tables.proofs.Laws.{stored-none, node-size, laid-length, laid-none, laid-more, laid-again, laid-kept}
-use Rattle.parser.specs.Read.{MAX16, MAX64, entryOf, Holds, Upto}
+use Rattle.parser.specs.Parse.{MAX16, MAX64, entryOf}
+use Rattle.parser.specs.Read.{Holds, Upto}
 
 entry-size : (n : Node) → length (entryOf n) ≡ 16
 unfolding entryOf

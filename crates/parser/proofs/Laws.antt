@@ -17,7 +17,8 @@ use Rattle.grammar.proofs.Progress.{sane?}
 use Rattle.grammar.proofs.Whole.{solid}
 use Rattle.grammar.proofs.First.{empties, firsts, Absent, absent?, absent-of, misses, untaken}
 use Rattle.patterns.proofs.Tests.{and-l, and-r}
-use Rattle.parser.specs.Read.{LIMIT, Attempt, Exceeds, input, Holds, READING, FAILED, Represents, Result, matched, failed, exceeded, Reads, still, reads}
+use Rattle.parser.specs.Parse.{input}
+use Rattle.parser.specs.Read.{LIMIT, Attempt, Exceeds, Holds, READING, FAILED, Represents, Result, matched, failed, exceeded, Reads, still, reads}
 use Rattle.parser.specs.Read.{Puts, puts, Grown, grown, Step, steps, Free, free, entered, Left, left-still, left}
 use Rattle.parser.specs.declared.cursor.Cursor.{Cursor}
 use Rattle.parser.proofs.Attempts.{attempt-and-not, attempt-and-then, attempt-or-first, attempt-or-else, attempt-rule, attempt-step, exceeds-and-left, exceeds-and-right, exceeds-or-left, exceeds-or-right, exceeds-rule}

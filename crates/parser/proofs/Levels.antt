@@ -8,13 +8,12 @@ use native.Mathlib.Numerals.{add-one}
 use lib.Dec.{eqb}
 use lib.ListN.{length}
 use borrow.Author.Tests.{eq-eqb}
-use Rattle.grammar.specs.Kinds.{Binary, Cast}
 use Rattle.grammar.specs.Derive.{Input, R, unary, level, firstPart, lastPart, close, G, step, _&_, many, rule, S, Frame, Out, got, none, part, yields, enter, leave, Derives, stepped, and-then, no-more, one-more, ruled}
 use Rattle.grammar.specs.Grammar.{body, operator, cast, link}
 use Rattle.grammar.proofs.Unique.{unique, same}
 use Rattle.grammar.proofs.On.{On, on, off, on-of, on-leave}
 use Rattle.grammar.proofs.Added.{added}
-use Rattle.parser.specs.Read.{LIMIT, MAX16, MAX64, Upto, READING, Represents, Result, matched, failed, exceeded, Reads, still, reads, Step, entered, input}
+use Rattle.parser.specs.Read.{LIMIT, Represents, Result, matched, failed, exceeded, Reads, still, reads, Step, entered}
 use Rattle.parser.specs.declared.cursor.Cursor.{Cursor}
 use Rattle.parser.proofs.Attempts.{attempt-rule, attempt-as, exceeds-rule}
 use Rattle.parser.proofs.Laws.{_then_}

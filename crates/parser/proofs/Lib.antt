@@ -10,4 +10,5 @@ pub mod Steps
 pub mod Prefixes
 pub mod Levels
 pub mod Finish
+pub mod Uncapped
 pub mod Reading

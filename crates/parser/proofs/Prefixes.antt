@@ -1,17 +1,17 @@
 -- Prefixes, read by a loop: they are counted, the operand is read past them, and each then makes a node. Assumes nothing.
 use mathlib.Core.Path.{_≡_, refl, sym, ap, subst, _∙_}
-use mathlib.Core.Bool.{true, false}
-use mathlib.Core.List.{List, []}
-use Prim.Native.Nat.{ℕ, suc, _+_, _-_, _/_, _<_, _≤_, min}
+use mathlib.Core.Bool.{false}
+use mathlib.Core.List.{List}
+use Prim.Native.Nat.{ℕ, _+_, _-_, _/_, _<_, _≤_, min}
 use native.Mathlib.Omega.{arith}
 use native.Mathlib.Decide.{decLt, ℕ-discrete}
 use lib.ListN.{length}
 use Rattle.tables.specs.Tables.{tokenAt}
 use Rattle.tables.specs.TokenKinds.{NOT, MINUS}
 use Rattle.grammar.specs.Kinds.{Unary}
-use Rattle.grammar.specs.Derive.{unary, close, firstToken, lastPart, step, _&_, many, rule, S}
+use Rattle.grammar.specs.Derive.{unary, close, firstToken, lastPart, step, _&_, many, rule}
 use Rattle.grammar.specs.Grammar.{body, atom, postfix, op}
-use Rattle.parser.specs.Read.{LIMIT, READING, DEEP, Reads, Puts, puts, Halted, was-halted, halts, entered, Left, fresh-at, signed-at, Restarted, restarts, restarts-deep, Prefix, no-prefix, a-not, a-minus, Prefixes, Unwound, Advanced, too-deep, advanced}
+use Rattle.parser.specs.Read.{LIMIT, READING, DEEP, Reads, Puts, puts, Halted, was-halted, halts, entered, Left, fresh-at, signed-at, Restarted, restarts, restarts-deep, Prefix, no-prefix, a-not, a-minus, Prefixes, Unwound, too-deep, advanced}
 use Rattle.parser.specs.declared.cursor.Cursor.{Cursor}
 use Rattle.parser.proofs.Laws.{clash, only, pass, _then_, by-rule, idle}
 use Rattle.parser.proofs.Falls.{Ahead, ahead, ahead-of}

@@ -1,15 +1,14 @@
 -- All that a reader's proof names. Assumes nothing.
-pub use mathlib.Core.Path.{_≡_, refl, sym, ap, _∙_}
+pub use mathlib.Core.Path.{refl, _∙_}
 pub use mathlib.Core.List.{List, []}
-pub use Prim.Native.Nat.{ℕ, _+_, _-_, _≤_, _<_, _/_}
+pub use Prim.Native.Nat.{ℕ, _-_, _/_}
 pub use native.Mathlib.Omega.{arith}
 pub use lib.ListN.{length}
 pub use borrow.Author.Needs.{needs}
 unfoldable pub use Rattle.grammar.specs.Grammar.{body}
-pub use Rattle.grammar.proofs.First.{absent-of}
-pub use Rattle.parser.specs.Read.{puts, grown, steps, free, a-not, a-minus, no-prefix}
+pub use Rattle.parser.specs.Read.{puts, grown, steps, a-not, a-minus, no-prefix}
 pub use Rattle.parser.proofs.Laws.{idle, one-put, one-grown, one-step, one-free, _then_, first, other, absent, only, pass, by-rule, nothing}
-pub use Rattle.parser.proofs.Falls.{size, on, on-put, on-grown, on-step, on-free, at-here, at-in, at-shallow, _and-on_, was, further, lower}
+pub use Rattle.parser.proofs.Falls.{size, on, on-put, on-grown, on-step, on-free, at-here, at-in, _and-on_, was, further, lower}
 pub use Rattle.parser.proofs.Loops.{Looping, rounds-begin, rounds-next, rounds-end, rounds-off}
 pub use Rattle.parser.proofs.Lists.{listed, listed-none, listed-end, listed-off, entries-none, entries-end, entries-off}
 pub use Rattle.parser.proofs.Shapes.{regroup, share, element, no-element, many-never, opt-never, and-never, both-not, both-read, one, two}

@@ -13,7 +13,8 @@ use Rattle.tables.proofs.Laws.{number-none, tokens-at}
 use Rattle.grammar.specs.Derive.{Input, token, Act, leaf, Start, firstToken, firstPart, End, lastToken, lastPart, callEnd, take, close, tick, alone, step, S, Out, got, none, next, marked, emit, starts, ends, closed, act, yields, stepped, here}
 use Rattle.grammar.specs.Grammar.{tok, op}
 use Rattle.grammar.proofs.Unique.{unique}
-use Rattle.parser.specs.Read.{Attempt, Exceeds, input, MAX16, MAX64, Holds, READING, FAILED, Upto, Represents, Result, matched, failed, exceeded, Reads, still, reads}
+use Rattle.parser.specs.Parse.{input, MAX16, MAX64}
+use Rattle.parser.specs.Read.{Attempt, Exceeds, Holds, READING, FAILED, Upto, Represents, Result, matched, failed, exceeded, Reads, still, reads}
 use Rattle.parser.specs.Read.{Wanted, up, Halted, was-halted, halts, Advanced, not-reading, not-there, too-deep, advanced, with-mark, with-part, counted, Closed, not-closed, closes}
 use Rattle.parser.specs.declared.cursor.Cursor.{Cursor}
 use Rattle.parser.proofs.Attempts.{attempt-as, attempt-take, attempt-miss, attempt-step, exceeds-by, exceeds-take}

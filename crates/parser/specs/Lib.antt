@@ -1,2 +1,2 @@
-pub mod Read
 pub mod Parse
+pub mod Read

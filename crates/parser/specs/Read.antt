@@ -1,14 +1,15 @@
 -- What a reader's contract says: how the cursor and the node table that it leaves stand to the grammar that it reads. Assumes nothing.
 use mathlib.Core.Path.{_≡_}
-use mathlib.Core.Bool.{Bool, true, false, cond}
+use mathlib.Core.Bool.{cond}
 use mathlib.Core.List.{List}
-use Prim.Native.Nat.{ℕ, zero, suc, pred, _+_, _*_, _-_, _/_, _<_, _≤_, min}
+use Prim.Native.Nat.{ℕ, zero, suc, _+_, _-_, _/_, _<_, _≤_, min}
 use lib.Dec.{eqb}
 use lib.ListN.{length}
-use Rattle.tables.specs.Tables.{Node, encodeNode, tokensOf, tokenAt, laid, stored}
+use Rattle.tables.specs.Tables.{Node, encodeNode, tokenAt, laid, stored}
 use Rattle.tables.specs.TokenKinds.{NOT, MINUS}
-use Rattle.grammar.specs.Derive.{Input, R, unary, G, S, Out, got, none, Derives, Takes}
+use Rattle.grammar.specs.Derive.{Input, unary, G, S, Out, got, none, Derives, Takes}
 use Rattle.grammar.specs.Grammar.{body, nests}
+use Rattle.parser.specs.Parse.{input, MAX16, MAX64, entryOf}
 use Rattle.parser.specs.declared.cursor.Cursor.{Cursor}
 
 -- ---- attempts
@@ -29,23 +30,7 @@ pub record Exceeds (x : Input) (g : G) (n : ℕ) (s : S) : Type 0 where
   pub above : LIMIT < nest
   pub takes : Takes body x nests token nest g n s
 
--- ---- tables
-
--- a text and the table of its tokens, as the grammar has them
-abbrev pub input : List ℕ → List ℕ → Input
-input text w = record { text = text; tokens = tokensOf w }
-
--- the largest numbers of 16 and of 64 bits
-abbrev pub MAX16 : ℕ
-MAX16 = 65535
-
-abbrev pub MAX64 : ℕ
-MAX64 = 18446744073709551615
-
--- a node's entry; a field too large for its bits is the largest that they hold, which no node of a real text has (`fits` of grammar)
-unfoldable pub entryOf : Node → List ℕ
-entryOf n =
-    encodeNode (record { kind = n .kind; start = min (n .start) MAX16; end = min (n .end) MAX16; children = min (n .children) MAX16; value = min (n .value) MAX64 })
+-- ---- the node table
 
 -- the table begins with the nodes, as far as it has room
 pub record Holds (T : List ℕ) (ns : List Node) : Type 0 where
