@@ -10,7 +10,8 @@ use lib.ListN.{replicate, length-append, length-replicate}
 use borrow.Author.Tests.{eq-eqb, ne-eqb}
 use Rattle.grammar.specs.Derive.{Token, S, part, enter, next, marked, emit, closed}
 use Rattle.parser.specs.Parse.{MAX16, MAX64}
-use Rattle.parser.specs.Read.{Upto, Represents, up, past, with-mark, with-part, counted, closed-at, entered}
+use Rattle.parser.specs.Read.{Upto, Represents}
+use Rattle.parser.specs.Steps.{up, past, with-mark, with-part, counted, closed-at, entered}
 use Rattle.parser.specs.declared.cursor.Cursor.{Cursor}
 
 -- ---- numbers up to a limit

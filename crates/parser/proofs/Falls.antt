@@ -15,7 +15,8 @@ use Rattle.grammar.proofs.On.{on-of}
 use Rattle.grammar.proofs.Progress.{eats, sane?, grows}
 use Rattle.grammar.proofs.Whole.{solid, takes-one}
 use Rattle.parser.specs.Parse.{input}
-use Rattle.parser.specs.Read.{READING, Represents, Result, matched, failed, exceeded, Reads, still, reads, Puts, puts, Grown, grown, Step, steps, Free, free, fresh-at, at-nest}
+use Rattle.parser.specs.Read.{READING, Represents, Result, matched, failed, exceeded, Reads, still, reads, Puts, puts, Grown, grown, Step, steps, Free, free}
+use Rattle.parser.specs.Steps.{fresh-at, at-nest}
 use Rattle.parser.specs.declared.cursor.Cursor.{Cursor}
 use Rattle.parser.proofs.Laws.{clash, some}
 

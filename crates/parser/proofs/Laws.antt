@@ -19,7 +19,8 @@ use Rattle.grammar.proofs.First.{empties, firsts, Absent, absent?, absent-of, m
 use Rattle.patterns.proofs.Tests.{and-l, and-r}
 use Rattle.parser.specs.Parse.{input}
 use Rattle.parser.specs.Read.{LIMIT, Attempt, Exceeds, Holds, READING, FAILED, Represents, Result, matched, failed, exceeded, Reads, still, reads}
-use Rattle.parser.specs.Read.{Puts, puts, Grown, grown, Step, steps, Free, free, entered, Left, left-still, left}
+use Rattle.parser.specs.Read.{Puts, puts, Grown, grown, Step, steps, Free, free}
+use Rattle.parser.specs.Steps.{entered, Left, left-still, left}
 use Rattle.parser.specs.declared.cursor.Cursor.{Cursor}
 use Rattle.parser.proofs.Attempts.{attempt-and-not, attempt-and-then, attempt-or-first, attempt-or-else, attempt-rule, attempt-step, exceeds-and-left, exceeds-and-right, exceeds-or-left, exceeds-or-right, exceeds-rule}
 pub use Rattle.parser.proofs.Cursors.{seen-as, represents-enter, represents-leave, some}

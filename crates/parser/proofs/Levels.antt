@@ -13,7 +13,8 @@ use Rattle.grammar.specs.Grammar.{body, operator, cast, link}
 use Rattle.grammar.proofs.Unique.{unique, same}
 use Rattle.grammar.proofs.On.{On, on, off, on-of, on-leave}
 use Rattle.grammar.proofs.Added.{added}
-use Rattle.parser.specs.Read.{LIMIT, Represents, Result, matched, failed, exceeded, Reads, still, reads, Step, entered}
+use Rattle.parser.specs.Read.{LIMIT, Represents, Result, matched, failed, exceeded, Reads, still, reads, Step}
+use Rattle.parser.specs.Steps.{entered}
 use Rattle.parser.specs.declared.cursor.Cursor.{Cursor}
 use Rattle.parser.proofs.Attempts.{attempt-rule, attempt-as, exceeds-rule}
 use Rattle.parser.proofs.Laws.{_then_}

@@ -11,7 +11,8 @@ use Rattle.tables.specs.TokenKinds.{NOT, MINUS}
 use Rattle.grammar.specs.Kinds.{Unary}
 use Rattle.grammar.specs.Derive.{unary, close, firstToken, lastPart, step, _&_, many, rule}
 use Rattle.grammar.specs.Grammar.{body, atom, postfix, op}
-use Rattle.parser.specs.Read.{LIMIT, READING, DEEP, Reads, Puts, puts, Halted, was-halted, halts, entered, Left, fresh-at, signed-at, Restarted, restarts, restarts-deep, Prefix, no-prefix, a-not, a-minus, Prefixes, Unwound, too-deep, advanced}
+use Rattle.parser.specs.Read.{LIMIT, READING, DEEP, Reads, Puts, puts}
+use Rattle.parser.specs.Steps.{Halted, was-halted, halts, entered, Left, fresh-at, signed-at, Restarted, restarts, restarts-deep, Prefix, no-prefix, a-not, a-minus, Prefixes, Unwound, too-deep, advanced}
 use Rattle.parser.specs.declared.cursor.Cursor.{Cursor}
 use Rattle.parser.proofs.Laws.{clash, only, pass, _then_, by-rule, idle}
 use Rattle.parser.proofs.Falls.{Ahead, ahead, ahead-of}

@@ -6,7 +6,8 @@ pub use native.Mathlib.Omega.{arith}
 pub use lib.ListN.{length}
 pub use borrow.Author.Needs.{needs}
 unfoldable pub use Rattle.grammar.specs.Grammar.{body}
-pub use Rattle.parser.specs.Read.{puts, grown, steps, a-not, a-minus, no-prefix}
+pub use Rattle.parser.specs.Read.{puts, grown, steps}
+pub use Rattle.parser.specs.Steps.{a-not, a-minus, no-prefix}
 pub use Rattle.parser.proofs.Laws.{idle, one-put, one-grown, one-step, one-free, _then_, first, other, absent, only, pass, by-rule, nothing}
 pub use Rattle.parser.proofs.Falls.{size, on, on-put, on-grown, on-step, on-free, at-here, at-in, _and-on_, was, further, lower}
 pub use Rattle.parser.proofs.Loops.{Looping, rounds-begin, rounds-next, rounds-end, rounds-off}

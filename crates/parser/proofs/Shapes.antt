@@ -14,7 +14,8 @@ use Rattle.grammar.proofs.Progress.{sane?, sane-of}
 use Rattle.grammar.proofs.Whole.{solid, derives}
 use Rattle.grammar.proofs.Total.{Some, some}
 use Rattle.parser.specs.Parse.{input}
-use Rattle.parser.specs.Read.{LIMIT, Attempt, READING, FAILED, Represents, Result, matched, failed, exceeded, Reads, still, reads, Agreed, agrees-not, agrees-else, agrees, at-nest, shallow}
+use Rattle.parser.specs.Read.{LIMIT, Attempt, READING, FAILED, Represents, Result, matched, failed, exceeded, Reads, still, reads}
+use Rattle.parser.specs.Steps.{Agreed, agrees-not, agrees-else, agrees, at-nest, shallow}
 use Rattle.parser.specs.declared.cursor.Cursor.{Cursor}
 use Rattle.parser.proofs.Attempts.{attempt-as, attempt-and-not, attempt-and-then, attempt-or-first, attempt-or-else, attempt-both, attempt-step}
 use Rattle.parser.proofs.Attempts.{exceeds-by, exceeds-and-left, exceeds-and-right, exceeds-or-left, exceeds-or-right, exceeds-both}

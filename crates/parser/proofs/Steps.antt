@@ -15,7 +15,7 @@ use Rattle.grammar.specs.Grammar.{tok, op}
 use Rattle.grammar.proofs.Unique.{unique}
 use Rattle.parser.specs.Parse.{input, MAX16, MAX64}
 use Rattle.parser.specs.Read.{Attempt, Exceeds, Holds, READING, FAILED, Upto, Represents, Result, matched, failed, exceeded, Reads, still, reads}
-use Rattle.parser.specs.Read.{Wanted, up, Halted, was-halted, halts, Advanced, not-reading, not-there, too-deep, advanced, with-mark, with-part, counted, Closed, not-closed, closes}
+use Rattle.parser.specs.Steps.{Wanted, up, Halted, was-halted, halts, Advanced, not-reading, not-there, too-deep, advanced, with-mark, with-part, counted, Closed, not-closed, closes}
 use Rattle.parser.specs.declared.cursor.Cursor.{Cursor}
 use Rattle.parser.proofs.Attempts.{attempt-as, attempt-take, attempt-miss, attempt-step, exceeds-by, exceeds-take}
 use Rattle.parser.proofs.Cursors.{upto-as, near, test, upto-up, seen-as, represents-past, represents-mark, represents-emit, represents-closed}

@@ -9,7 +9,8 @@ ghost use Rattle.grammar.specs.Derive.{step, take, leaf, index, literal, count,
 ghost use Rattle.grammar.specs.Kinds.{Call};
 ghost use Rattle.grammar.specs.Grammar.{tok, op, opt, namedType, numeral, whole, operands, spanless};
 ghost use Rattle.parser.specs.Parse.{MAX16, MAX64};
-ghost use Rattle.parser.specs.Read.{Reads, Puts, Grown, Step, Free, Wanted, Halted, Advanced, Closed, Agreed, Restarted, Left, with-part, fresh-at, signed-at, entered, shallow, up};
+ghost use Rattle.parser.specs.Read.{Reads, Puts, Grown, Step, Free};
+ghost use Rattle.parser.specs.Steps.{Wanted, Halted, Advanced, Closed, Agreed, Restarted, Left, with-part, fresh-at, signed-at, entered, shallow, up};
 use grammar::node_kind;
 use patterns::is_word;
 use tables::node::put_node;

@@ -1,7 +1,8 @@
 // Expressions: atoms, postfixes, prefixes, casts, and the binary levels.
 ghost use Rattle.grammar.specs.Derive.{rule, expr, level, unary, many, _&_, _or_};
 ghost use Rattle.grammar.specs.Grammar.{another, list, field, fields, cast, link, operator, atom, postfix, newExpr, structLiteral, arrayRepeat, arrayLiteral, parenOrTuple, repeatCount};
-ghost use Rattle.parser.specs.Read.{Reads, Puts, Step, Prefix, Prefixes, Unwound};
+ghost use Rattle.parser.specs.Read.{Reads, Puts, Step};
+ghost use Rattle.parser.specs.Steps.{Prefix, Prefixes, Unwound};
 use crate::cursor::Cursor;
 use crate::cursor::FAILED;
 use crate::cursor::READING;

@@ -4,7 +4,8 @@ use Prim.Native.Nat.{ℕ, _/_, _<_, _≤_}
 use lib.ListN.{length}
 use borrow.Author.Needs.{needs}
 use Rattle.tables.specs.Tables.{tokenAt}
-use Rattle.parser.specs.Read.{LIMIT, READING, FAILED, DEEP, Halted, Advanced, not-reading, not-there, too-deep, advanced, past}
+use Rattle.parser.specs.Read.{LIMIT, READING, FAILED, DEEP}
+use Rattle.parser.specs.Steps.{Halted, Advanced, not-reading, not-there, too-deep, advanced, past}
 use Rattle.parser.specs.declared.cursor.Cursor.{Cursor}
 use Rattle.parser.proofs.Steps.{halted, past-all}
 use Rattle.parser.proofs.cursor.Cursor.advance.Statement.{statement}

@@ -1,5 +1,5 @@
 use borrow.Author.Needs.{needs}
-use Rattle.parser.specs.Read.{agrees-not, agrees-else, agrees}
+use Rattle.parser.specs.Steps.{agrees-not, agrees-else, agrees}
 use Rattle.parser.proofs.Steps.{halted}
 use Rattle.parser.proofs.cursor.Cursor.agree.Statement.{statement}
 use Rattle.parser.proofs.cursor.Cursor.agree.Tie as tie

@@ -1,5 +1,5 @@
 use borrow.Author.Needs.{needs}
-use Rattle.parser.specs.Read.{not-closed, closes}
+use Rattle.parser.specs.Steps.{not-closed, closes}
 use Rattle.parser.proofs.cursor.Cursor.close.Statement.{statement}
 use Rattle.parser.proofs.cursor.Cursor.close.Tie as tie
 

@@ -1,5 +1,5 @@
 use borrow.Author.Needs.{needs}
-use Rattle.parser.specs.Read.{was-halted, halts}
+use Rattle.parser.specs.Steps.{was-halted, halts}
 use Rattle.parser.proofs.cursor.Cursor.halt.Statement.{statement}
 use Rattle.parser.proofs.cursor.Cursor.halt.Tie as tie
 

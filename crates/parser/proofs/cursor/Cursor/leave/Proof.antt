@@ -1,5 +1,5 @@
 use borrow.Author.Needs.{needs}
-use Rattle.parser.specs.Read.{left-still, left}
+use Rattle.parser.specs.Steps.{left-still, left}
 use Rattle.parser.proofs.cursor.Cursor.leave.Statement.{statement}
 use Rattle.parser.proofs.cursor.Cursor.leave.Tie as tie
 

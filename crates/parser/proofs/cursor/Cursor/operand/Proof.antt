@@ -1,6 +1,6 @@
 use native.Mathlib.Omega.{arith}
 use borrow.Author.Needs.{needs}
-use Rattle.parser.specs.Read.{restarts-deep, restarts}
+use Rattle.parser.specs.Steps.{restarts-deep, restarts}
 use Rattle.parser.proofs.cursor.Cursor.operand.Statement.{statement}
 use Rattle.parser.proofs.cursor.Cursor.operand.Tie as tie
 
