@@ -214,8 +214,12 @@ def shape(fn, recipe):
         r.setdefault(first, f"by-rule G.{m.group(1)} refl if1 enter ({term}) leave" if m else term)
     return r
 
-def looked(term):
-    """[not if2, is if3: X]: X by the next token's kind"""
+def looked(term, idle):
+    """[not if2, is if3: X]: X by the next token's kind; [at if4: X] is `not` for each test before if4 and `is` for that, [past if4: X] is `not` for all up to it"""
+    def all_to(m):
+        tests = [f"not if{n}" for n in range(2 if idle else 1, int(m.group(2)))]
+        return "[" + ", ".join(tests + [("is" if m.group(1) == "at" else "not") + f" if{m.group(2)}"])
+    term = re.sub(r"\[(at|past) if(\d+)", all_to, term)
     while True:
         m = re.search(r"\[((?:(?:not|is|was) if\d+(?:, )?)+): ([^\[\]]*)\]", term)
         if not m: return term
@@ -227,8 +231,8 @@ def looked(term):
 class Reader:
     def __init__(self, fn, recipe, lts, ranks, far):
         self.fn, self.lts, self.ranks, self.far = fn, lts, ranks, far
-        self.recipe = {k: looked(v) for k, v in shape(fn, recipe).items()}
         self.idle = fn.body.lstrip().startswith("if cursor.status != READING {\n        return cursor;")
+        self.recipe = {k: looked(v, self.idle) for k, v in shape(fn, recipe).items()}
         self.loop = bool(lts.loops)
 
     def info(self, thing): return FNS.get(re.sub(r"\d+$", "", thing).replace("-", "_"))
