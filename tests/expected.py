@@ -523,16 +523,16 @@ def files():
 # ---- the commands
 
 
-def check():
-    differing = []
-    for name, content in files().items():
+def check(contents):
+    script, differing = Path(sys.argv[0]).name, []
+    for name, content in contents.items():
         path = ROOT / name
         if not path.is_file() or path.read_bytes() != content:
             differing.append(name)
     for name in differing:
-        print(f"expected.py: {name} is not what expected.py writes")
+        print(f"{script}: {name} is not what {script} writes")
     if not differing:
-        print("expected.py: the case files are what it writes")
+        print(f"{script}: the case files are what it writes")
     return 1 if differing else 0
 
 
@@ -576,8 +576,8 @@ def texts(folder):
     return 0
 
 
-def write():
-    for name, content in files().items():
+def write(contents):
+    for name, content in contents.items():
         path = ROOT / name
         path.parent.mkdir(parents=True, exist_ok=True)
         path.write_bytes(content)
@@ -586,9 +586,9 @@ def write():
 
 def main(words):
     if words == []:
-        return write()
+        return write(files())
     if words == ["--check"]:
-        return check()
+        return check(files())
     if len(words) == 2 and words[0] == "--source":
         return source(words[1])
     if len(words) == 2 and words[0] == "--texts":

@@ -1,51 +1,7 @@
-// Reading a file of cases.
+// The bytes that a case spells.
 ghost use Prim.Native.Nat.{_≤_, _<_};
 ghost use lib.ListN.{length};
-
-// The place of the next line feed from `at` on, or the end.
-pub(crate) fn line_end(file: &[u8], at: usize) -> usize
-    requires { ⌜ at ≤ length (now file) ⌝ }
-    ensures { λ r. ⌜ (at ≤ r) × (r ≤ length (now (file .entry))) ⌝ }
-{
-    let mut i = at;
-    while i < file.len() {
-        if file[i] == b'\n' {
-            return i;
-        }
-        i += 1;
-    }
-    i
-}
-
-pub struct Field {
-    pub value: usize,
-    pub next: usize,
-}
-
-// The decimal number at `at`, and the place after the byte that ends it.
-pub fn number(line: &[u8], at: usize) -> Field
-    ensures { λ r. ⌜ at ≤ r .next ⌝ }
-{
-    let mut value = 0;
-    let mut i = at;
-    while i < line.len() {
-        let b = line[i];
-        i += 1;
-        if b < b'0' || b > b'9' {
-            return Field { value, next: i };
-        }
-        value = with_digit(value, b);
-    }
-    Field { value, next: i }
-}
-
-// One digit more, as long as the number is small.
-fn with_digit(value: usize, b: u8) -> usize {
-    if value > 99_999 || b < b'0' {
-        return value;
-    }
-    value * 10 + (b - b'0') as usize
-}
+use case_io::number;
 
 // Lays the bytes that a line spells from `at` on into text, and answers how many there are.
 pub fn bytes(line: &[u8], at: usize, text: &mut [u8]) -> usize

@@ -1,7 +1,7 @@
 // A case of the lexing entry.
-ghost use Prim.Native.Nat.{_≤_, _<_};
-use crate::output::field;
-use crate::output::words;
+use case_io::field;
+use case_io::stray;
+use case_io::words;
 use tables::diagnostic;
 use tables::token;
 
@@ -50,8 +50,8 @@ fn print_counts(outcome: u32, token_count: usize, diagnostic_count: usize) {
 
 // For each table the bytes that should be zero and are not, then each token and each diagnostic.
 fn print_tables(tokens: &[u8], t: usize, diagnostics: &[u8], d: usize) {
-    field(b' ', stray(tokens, t, 16, 6) as u64);
-    field(b' ', stray(diagnostics, d, 8, 5) as u64);
+    field(b' ', stray(tokens, t, 16, 6, 8) as u64);
+    field(b' ', stray(diagnostics, d, 8, 5, 8) as u64);
     print_tokens(tokens, t);
     print_diagnostics(diagnostics, d);
 }
@@ -62,32 +62,6 @@ fn stored(outcome: u32, own: u32, count: usize, room: usize) -> usize {
         return 0;
     }
     if count < room { count } else { room }
-}
-
-// How many bytes are not zero though they are in no field of a used entry.
-fn stray(table: &[u8], used: usize, size: usize, gap: usize) -> usize
-    requires { ⌜ 0 < size ⌝ }
-{
-    let mut count = 0;
-    let mut i = 0;
-    while i < table.len() {
-        count += is_stray(table[i], i / size, used, i % size, gap);
-        i += 1;
-    }
-    count
-}
-
-// 1 for a byte that is not zero and stands past the used entries, or in the gap of one, which ends at place 8.
-fn is_stray(b: u8, entry: usize, used: usize, place: usize, gap: usize) -> usize
-    ensures { λ r. ⌜ r ≤ 1 ⌝ }
-{
-    if b == 0 {
-        return 0;
-    }
-    if entry < used && (place < gap || place >= 8) {
-        return 0;
-    }
-    1
 }
 
 fn print_tokens(table: &[u8], used: usize) {

@@ -1,8 +1,11 @@
 // Answers the cases on standard input, by a line each; tests/expected.py writes the cases and the answers that are owed.
 mod input;
 mod lexing;
-mod output;
 
+use case_io::field;
+use case_io::line_end;
+use case_io::number;
+use case_io::words;
 use numeral::Answer;
 
 fn main() {
@@ -14,7 +17,7 @@ fn main() {
 fn lines(file: &[u8]) {
     let mut at = 0;
     while at < file.len() {
-        let end = input::line_end(file, at);
+        let end = line_end(file, at);
         line(&file[at..end]);
         at = end + 1;
     }
@@ -29,9 +32,9 @@ fn line(case: &[u8]) {
         b'u' => utf8_case(case),
         b'n' => numeral_case(case),
         b'l' => lexing_case(case),
-        _ => output::words(case),
+        _ => words(case),
     }
-    output::words(b"\n");
+    words(b"\n");
 }
 
 // u BYTES: is_utf8, char_len.
@@ -39,9 +42,9 @@ fn utf8_case(case: &[u8]) {
     let mut space = [0u8; 65600];
     let n = input::bytes(case, 2, &mut space);
     let text = &space[0..n];
-    output::words(b"u");
-    output::field(b' ', utf8::is_utf8(text) as u64);
-    output::field(b' ', utf8::char_len(text) as u64);
+    words(b"u");
+    field(b' ', utf8::is_utf8(text) as u64);
+    field(b' ', utf8::char_len(text) as u64);
 }
 
 // n BYTES: outcome, value, suffix and reason of the C entry, then the answer as an enum.
@@ -58,26 +61,26 @@ fn numeral_entry(spelling: &[u8]) {
     let mut suffix: u8 = 0xAA;
     let mut reason: u8 = 0xAA;
     let outcome = numeral::cairo_m_numeral(spelling, &mut value, &mut suffix, &mut reason);
-    output::words(b"n");
-    output::field(b' ', outcome as u64);
-    output::field(b' ', value);
-    output::field(b' ', suffix as u64);
-    output::field(b' ', reason as u64);
+    words(b"n");
+    field(b' ', outcome as u64);
+    field(b' ', value);
+    field(b' ', suffix as u64);
+    field(b' ', reason as u64);
 }
 
 fn numeral_answer(spelling: &[u8]) {
     let answer = numeral::answer(spelling);
     match answer {
         Answer::Number { value, suffix } => {
-            output::words(b" number");
-            output::field(b' ', value);
-            output::field(b' ', suffix as u64);
+            words(b" number");
+            field(b' ', value);
+            field(b' ', suffix as u64);
         }
-        Answer::Long => output::words(b" long"),
-        Answer::Spelling => output::words(b" spelling"),
+        Answer::Long => words(b" long"),
+        Answer::Spelling => words(b" spelling"),
         Answer::Lexical { reason } => {
-            output::words(b" lexical");
-            output::field(b' ', reason as u64);
+            words(b" lexical");
+            field(b' ', reason as u64);
         }
     }
 }
@@ -85,8 +88,8 @@ fn numeral_answer(spelling: &[u8]) {
 // l T D BYTES: lexing with T bytes of token table and D bytes of diagnostics.
 fn lexing_case(case: &[u8]) {
     let mut space = [0u8; 65600];
-    let tokens = input::number(case, 2);
-    let diagnostics = input::number(case, tokens.next);
+    let tokens = number(case, 2);
+    let diagnostics = number(case, tokens.next);
     let n = input::bytes(case, diagnostics.next, &mut space);
     lexing::answer(&space[0..n], tokens.value, diagnostics.value);
 }

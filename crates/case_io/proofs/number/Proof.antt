@@ -2,8 +2,8 @@
 use Prim.Native.Nat.{_-_, _≤_}
 use borrow.Author.Needs.{needs}
 use lib.ListN.{length}
-use Rattle.lexer_cases.proofs.input.number.Statement.{statement}
-use Rattle.lexer_cases.proofs.input.number.Tie as tie
+use Rattle.case_io.proofs.number.Statement.{statement}
+use Rattle.case_io.proofs.number.Tie as tie
 
 abbrev Inv-loop : tie.InvT-loop
 Inv-loop line at value₀ i₀ value i = at ≤ i

@@ -2,14 +2,14 @@
 use Prim.Native.Nat.{_-_, _≤_}
 use borrow.Author.Needs.{needs}
 use lib.ListN.{length}
-use Rattle.lexer_cases.proofs.lexing.stray.Statement.{statement}
-use Rattle.lexer_cases.proofs.lexing.stray.Tie as tie
+use Rattle.case_io.proofs.stray.Statement.{statement}
+use Rattle.case_io.proofs.stray.Tie as tie
 
 abbrev Inv-loop : tie.InvT-loop
-Inv-loop table used size gap count₀ i₀ count i = count ≤ i
+Inv-loop table used size gap rest count₀ i₀ count i = (count ≤ i) × (i ≤ length table)
 
 abbrev μ-loop : tie.MeasureT-loop
-μ-loop table used size gap count₀ i₀ count i = length table - i
+μ-loop table used size gap rest count₀ i₀ count i = length table - i
 
 pub stray-spec : {M : Type 1} → statement M
 stray-spec =

@@ -2,8 +2,8 @@
 use Prim.Native.Nat.{_-_, _≤_}
 use borrow.Author.Needs.{needs}
 use lib.ListN.{length}
-use Rattle.lexer_cases.proofs.input.line_end.Statement.{statement}
-use Rattle.lexer_cases.proofs.input.line_end.Tie as tie
+use Rattle.case_io.proofs.line_end.Statement.{statement}
+use Rattle.case_io.proofs.line_end.Tie as tie
 
 abbrev Inv-loop : tie.InvT-loop
 Inv-loop file at i₀ i = (at ≤ i) × (i ≤ length file)
