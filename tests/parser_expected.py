@@ -2049,11 +2049,46 @@ def all_cases():
     cases.section("token tables")
     token_cases(cases)
 
+    cases.section("long runs")
+    run_cases(cases)
+
     owed = {kind for kind in NODE_KINDS if kind not in ("Binary", "Unary")}
     owed |= {("Binary", value) for value in range(16)} | {("Unary", value) for value in range(2)}
     if cases.seen != owed:
         raise SystemExit(f"parser_expected.py: no tree has {owed - cases.seen}")
     return cases
+
+
+# A text with a part that stands n times, as kinds alone: before, the part, after; and how many nodes it has.
+RUNS = [
+    ("const A =", "-", "1;", 16000, lambda n: n + 3),
+    ("const A =", "!-", "1;", 8000, lambda n: 2 * n + 3),
+    ("const A = 1", "+ 1", ";", 8000, lambda n: 2 * n + 3),
+    ("const A = 1", "as T", ";", 8000, lambda n: 2 * n + 3),
+    ("const A = f", "()", ";", 8000, lambda n: n + 3),
+    ("const A = [1", ", 1", "];", 8000, lambda n: n + 4),
+    ("const A = x {", "f: 1,", "};", 4000, lambda n: 2 * n + 4),
+    ("const A: T", "*", "= 1;", 16000, lambda n: n + 4),
+    ("fn f() {", "x;", "}", 8000, lambda n: 2 * n + 3),
+    ("fn f() { let (a, b", ", c", ") = 1; }", 8000, lambda n: n + 8),
+    ("fn f(", "a: T,", ") {}", 4000, lambda n: 3 * n + 3),
+    ("struct S {", "a: T,", "}", 4000, lambda n: 2 * n + 2),
+    ("use a", "::b", ";", 8000, lambda n: n + 2),
+    ("", "const A = 1;", "", 3200, lambda n: 3 * n),
+]
+
+
+def run_cases(cases):
+    def kinds(text):
+        return [str(token[0]) for token in tokens_of(text)]
+    def words(text):
+        ks = kinds(text)
+        return " ".join([str(len(ks))] + ks)
+    for before, part, after, times, nodes in RUNS:
+        cases.line(f"r {times} {words(before)} {words(part)} {words(after)}", f"{TREE} {nodes(times)} 0")
+    # a run of what is nested is too deep
+    for before, part, after in (("const A =", "(", "1;"), ("const A =", "[", "1;"), ("fn f()", "{", "}"), ("const A: ", "(", "T = 1;")):
+        cases.line(f"r 16000 {words(before)} {words(part)} {words(after)}", f"{DEEP} 0")
 
 
 def files():

@@ -1,5 +1,6 @@
 // Answers the cases on standard input, by a line each; tests/parser_expected.py writes the cases and the answers that are owed.
 mod given;
+mod run;
 mod tree;
 
 use case_io::line_end;
@@ -36,6 +37,10 @@ fn answer(file: &[u8], at: usize) -> usize
 fn line(case: &[u8]) {
     if case.len() > 2 && case[0] == b'p' {
         parsing_case(case);
+        return;
+    }
+    if case.len() > 2 && case[0] == b'r' {
+        run::answer(case);
         return;
     }
     words(case);

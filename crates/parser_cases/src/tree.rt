@@ -15,7 +15,7 @@ pub fn answer(text: &[u8], tokens: &[u8], node_bytes: usize) {
     parsed(text, tokens, &mut nodes[0..node_bytes]);
 }
 
-fn parsed(text: &[u8], tokens: &[u8], nodes: &mut [u8]) {
+pub fn parsed(text: &[u8], tokens: &[u8], nodes: &mut [u8]) {
     let answer = parse(text, tokens, nodes);
     match answer {
         Parsed::Tree(count) => {

@@ -1,0 +1,28 @@
+-- The table keeps its length. The measure is how many are left to lay.
+use Prim.Native.Nat.{_-_}
+use borrow.Author.Needs.{needs}
+use lib.ListN.{length}
+use mathlib.Core.Path.{_≡_}
+use Rattle.parser_cases.proofs.run.lay.Statement.{statement}
+use Rattle.parser_cases.proofs.run.lay.Tie as tie
+
+abbrev Inv-loop : tie.InvT-loop
+Inv-loop line at tokens₀ from times count next₀ end₀ counter₀ tokens next end counter = length tokens ≡ length tokens₀
+
+abbrev μ-loop : tie.MeasureT-loop
+μ-loop line at tokens₀ from times count next₀ end₀ counter₀ tokens next end counter = times - counter
+
+pub lay-spec : {M : Type 1} → statement M
+lay-spec =
+    tie.close
+    (tie.spec
+    Inv-loop
+    μ-loop
+    (λ c κs. search needs)
+    (λ c. search needs)
+    (λ c κs. search needs)
+    (λ c. search needs)
+    (λ c. search needs)
+    (λ c. search needs)
+    (λ c. search needs)
+    (λ c. search needs))
