@@ -14,12 +14,12 @@ abbrev pub input : List ℕ → List ℕ → Input
 input text w = record { text = text; tokens = tokensOf w }
 
 -- ---- the verdict
--- what a text's tokens are to the grammar
+-- what a text's tokens are to the grammar: the nodes of a tree, or what 01 has as outcomes 7 and 5
 pub data Verdict : Type 0 where
   tree : List Node → Verdict
   syntax deep : Verdict
 
--- an attempt takes a token above the nest limit; or none does, and the grammar derives all tokens, or not
+-- outcome 5, nest: some attempt takes a token deeper than 64; else a tree, or outcome 7, syntax: no tree has all tokens
 pub data VerdictIs (x : Input) : Verdict → Type 0 where
   is-deep : Deep x → VerdictIs x deep
   is-tree : {ns : List Node} {us : List Token} → (Deep x → ⊥) → Tree x ns us → VerdictIs x (tree ns)
@@ -40,13 +40,13 @@ unfoldable pub entryOf : Node → List ℕ
 entryOf n =
     encodeNode (record { kind = n .kind; start = min (n .start) MAX16; end = min (n .end) MAX16; children = min (n .children) MAX16; value = min (n .value) MAX64 })
 
--- the answer: a tree's nodes are all counted
+-- the answer: all nodes of a tree are counted, stored or not, so that outcome 6 can be told
 abbrev pub answerOf : Verdict → Parsed
 answerOf (tree ns) = Parsed.Tree (min (length ns) MAX64)
 answerOf syntax = Parsed.Syntax
 answerOf deep = Parsed.Deep
 
--- the node table, of n bytes: as many as fit are stored, and what is not used is zero
+-- the node table, of n bytes: the nodes in order, as many as fit, and unused entries are zero, as in every table
 abbrev pub nodesOf : ℕ → Verdict → List ℕ
 nodesOf n (tree ns) = table 16 entryOf n ns
 nodesOf n syntax = replicate n 0

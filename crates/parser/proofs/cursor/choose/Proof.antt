@@ -1,3 +1,4 @@
+-- `choose` meets its contract. Assumes nothing.
 use borrow.Author.Needs.{needs}
 use borrow.Author.Tests.{eq-eqb, ne-eqb}
 use Rattle.parser.proofs.cursor.choose.Statement.{statement}

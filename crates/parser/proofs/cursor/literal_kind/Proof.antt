@@ -1,3 +1,4 @@
+-- `literal_kind` meets its contract. Assumes nothing.
 use borrow.Author.Needs.{needs}
 use borrow.Author.Tests.{eq-eqb, ne-eqb}
 use Rattle.parser.proofs.cursor.literal_kind.Statement.{statement}

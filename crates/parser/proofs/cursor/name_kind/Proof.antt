@@ -1,3 +1,4 @@
+-- `name_kind` meets its contract. Assumes nothing.
 use borrow.Author.Needs.{needs}
 use Rattle.grammar.specs.Derive.{typeName}
 use Rattle.parser.proofs.cursor.name_kind.Statement.{statement}

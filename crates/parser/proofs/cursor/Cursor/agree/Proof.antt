@@ -1,3 +1,4 @@
+-- `agree` meets its contract. Assumes nothing.
 use borrow.Author.Needs.{needs}
 use Rattle.parser.specs.Steps.{agrees-not, agrees-else, agrees}
 use Rattle.parser.proofs.Steps.{halted}

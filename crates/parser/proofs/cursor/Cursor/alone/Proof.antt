@@ -1,3 +1,4 @@
+-- `alone` meets its contract. Assumes nothing.
 use borrow.Author.Needs.{needs}
 use Rattle.parser.specs.Read.{free}
 use Rattle.parser.proofs.Steps.{is-alone, not-alone}

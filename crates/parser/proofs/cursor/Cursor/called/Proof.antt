@@ -1,3 +1,4 @@
+-- `called` meets its contract. Assumes nothing.
 use borrow.Author.Needs.{needs}
 use Rattle.parser.specs.Read.{grown}
 use Rattle.parser.proofs.Steps.{gathers, from-part, to-callee, to-argument}

@@ -1,3 +1,4 @@
+-- `close` meets its contract. Assumes nothing.
 use borrow.Author.Needs.{needs}
 use Rattle.parser.specs.Steps.{not-closed, closes}
 use Rattle.parser.proofs.cursor.Cursor.close.Statement.{statement}

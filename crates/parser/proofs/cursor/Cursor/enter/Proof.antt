@@ -1,3 +1,4 @@
+-- `enter` meets its contract. Assumes nothing.
 use borrow.Author.Needs.{needs}
 use Rattle.parser.proofs.cursor.Cursor.enter.Statement.{statement}
 use Rattle.parser.proofs.cursor.Cursor.enter.Tie as tie

@@ -1,3 +1,4 @@
+-- `halt` meets its contract. Assumes nothing.
 use borrow.Author.Needs.{needs}
 use Rattle.parser.specs.Steps.{was-halted, halts}
 use Rattle.parser.proofs.cursor.Cursor.halt.Statement.{statement}

@@ -1,3 +1,4 @@
+-- `index` meets its contract. Assumes nothing.
 use borrow.Author.Needs.{needs}
 use borrow.Author.Tests.{ne-eqb}
 use Rattle.parser.specs.Read.{steps}

@@ -1,3 +1,4 @@
+-- `leaf` meets its contract. Assumes nothing.
 use native.Mathlib.Omega.{arith}
 use borrow.Author.Needs.{needs}
 use Rattle.parser.specs.Read.{puts}

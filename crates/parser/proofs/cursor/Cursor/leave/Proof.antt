@@ -1,3 +1,4 @@
+-- `leave` meets its contract. Assumes nothing.
 use borrow.Author.Needs.{needs}
 use Rattle.parser.specs.Steps.{left-still, left}
 use Rattle.parser.proofs.cursor.Cursor.leave.Statement.{statement}

@@ -1,3 +1,4 @@
+-- `literal` meets its contract. Assumes nothing.
 use borrow.Author.Needs.{needs}
 use Rattle.tables.specs.Tables.{tokenAt}
 use Rattle.grammar.specs.Derive.{noted}

@@ -1,3 +1,4 @@
+-- `mark` meets its contract. Assumes nothing.
 use borrow.Author.Needs.{needs}
 use Rattle.parser.specs.Read.{steps}
 use Rattle.parser.proofs.Steps.{wanted, stopped, marks}

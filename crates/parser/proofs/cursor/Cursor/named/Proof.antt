@@ -1,3 +1,4 @@
+-- `named` meets its contract. Assumes nothing.
 use borrow.Author.Needs.{needs}
 use Rattle.parser.proofs.Laws.{one-put}
 use Rattle.parser.proofs.Steps.{same-act}

@@ -1,3 +1,4 @@
+-- `part` meets its contract. Assumes nothing.
 use borrow.Author.Needs.{needs}
 use Rattle.parser.proofs.cursor.Cursor.part.Statement.{statement}
 use Rattle.parser.proofs.cursor.Cursor.part.Tie as tie

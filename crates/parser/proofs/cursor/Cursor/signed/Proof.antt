@@ -1,3 +1,4 @@
+-- `signed` meets its contract. Assumes nothing.
 use borrow.Author.Needs.{needs}
 use Rattle.parser.proofs.cursor.Cursor.signed.Statement.{statement}
 use Rattle.parser.proofs.cursor.Cursor.signed.Tie as tie

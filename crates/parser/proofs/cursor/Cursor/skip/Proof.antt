@@ -1,3 +1,4 @@
+-- `skip` meets its contract. Assumes nothing.
 use borrow.Author.Needs.{needs}
 use Rattle.parser.specs.Read.{steps}
 use Rattle.parser.proofs.Laws.{absent, first}

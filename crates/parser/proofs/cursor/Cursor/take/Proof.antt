@@ -1,3 +1,4 @@
+-- `take` meets its contract. Assumes nothing.
 use borrow.Author.Needs.{needs}
 use Rattle.parser.specs.Read.{steps}
 use Rattle.parser.proofs.Steps.{wanted, took}

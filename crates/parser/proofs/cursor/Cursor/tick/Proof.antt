@@ -1,3 +1,4 @@
+-- `tick` meets its contract. Assumes nothing.
 use borrow.Author.Needs.{needs}
 use Rattle.parser.specs.Read.{free}
 use Rattle.parser.proofs.Laws.{idle}

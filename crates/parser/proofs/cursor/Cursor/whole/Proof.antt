@@ -1,3 +1,4 @@
+-- `whole` meets its contract. Assumes nothing.
 use borrow.Author.Needs.{needs}
 use Rattle.parser.specs.Read.{puts}
 use Rattle.parser.proofs.Steps.{gathers, from-token, to-token}
