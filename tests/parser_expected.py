@@ -1747,6 +1747,80 @@ const A = 1; fn
 pub fn f() {}
 """
 
+# ---- the nest
+#
+# Each line is the nest at which a value, a type or a pattern is read, and a text up to there. Parentheses and one token follow.
+# With so many of them that the token is read at nest 64 the text is only unfinished, and with one more it is too deep.
+# After `if (` and `while (` both conditions are tried: the one in parentheses, and then the bare one, a nest further in.
+
+NESTED_VALUES = """
+1 const A =
+1 const A = a *
+1 const A = a ||
+1 const A = a + b * c as T ==
+1 const A = !-
+1 const A = f() + a.b - c[0] /
+2 const A = f(
+2 const A = f(a,
+2 const A = a.b(
+2 const A = a[
+2 const A = [
+2 const A = [a,
+2 const A = (a,
+2 const A = P { x:
+2 const A = P { x: 1, y:
+2 const A = new T[
+2 const A: [T;
+3 const A = f([
+3 const A: (T, [T;
+2 fn f() {
+2 fn f() { {} a; if (b) c;
+2 fn f() { a =
+2 fn f() { return
+2 fn f() { let a =
+2 fn f() { let a: T =
+2 fn f() { const A =
+2 fn f() { if !
+2 fn f() { while !
+3 fn f() { if (
+3 fn f() { while (
+2 fn f() { for (
+2 fn f() { for (a =
+2 fn f() { for (let a =
+2 fn f() { for (a;
+2 fn f() { for (a; b;
+2 fn f() { for (a; b; c =
+3 fn f() { {
+3 fn f() { if (a)
+3 fn f() { if (a) {} else
+3 fn f() { loop
+3 fn f() { while (a)
+3 fn f() { for (a; b; c)
+4 fn f() { for (a; b; c) loop
+"""
+
+NESTED_TYPES = """
+1 const A:
+1 fn f(a:
+1 fn f(a: T, b:
+1 fn f() ->
+1 struct S { a:
+1 struct S { a: T, b:
+2 const A: [
+2 const A: (T,
+2 const A = new
+3 const A = new (T,
+2 fn f() { let a:
+2 fn f() { const A:
+2 fn f() { for (let a:
+"""
+
+NESTED_PATTERNS = """
+2 fn f() { let
+3 fn f() { let (a,
+2 fn f() { for (let
+"""
+
 
 def rows_of(block, text):
     """The nodes that the lines of a block say, held to the parts of the text that stand beside them."""
@@ -1909,6 +1983,14 @@ def else_chain(n):
     return text, whole(BODY, text, nodes)
 
 
+def nested_conditions(word, n):
+    text = f"fn f() {{ {word} (" + "(" * n + "1" + ")" * n + ") {} }"
+    at = 11 + len(word) + n
+    nodes = [("Literal", at, at + 1, 0, 1)] + [("Paren", at - k, at + 1 + k, 1, 0) for k in range(1, n + 1)]
+    nodes += [("Block", at + n + 3, at + n + 5, 0, 0), (word.capitalize(), 9, at + n + 5, 2, 0)]
+    return text, whole(BODY, text, nodes)
+
+
 def prefixes(n):
     text = "const A = " + "!" * n + "a;"
     nodes = [("Identifier", 10 + n, 11 + n, 0, 0)] + [("Unary", 10 + n - k, 11 + n, 1, 0) for k in range(1, n + 1)]
@@ -1940,7 +2022,8 @@ def nest_cases(cases):
     last = [
         (nested_parens, 63), (nested_arrays, 64), (nested_calls, 63), (nested_types, 63), (nested_allocations, 62),
         (nested_patterns, 62), (nested_blocks, 64), (lambda n: nested_blocks(n, "break;", [("Break", 0, 6, 0, 0)]), 63),
-        (lambda n: nested_blocks(n, "x;", name), 62), (else_chain, 63),
+        (lambda n: nested_blocks(n, "x;", name), 62), (else_chain, 63), (lambda n: nested_conditions("if", n), 62),
+        (lambda n: nested_conditions("while", n), 62),
     ]
     for made, most in last:
         cases.tree(*made(1))
@@ -1949,16 +2032,21 @@ def nest_cases(cases):
         cases.refused(made(most + 1)[0], DEEP)
     for made in (prefixes, call_chain, sum_chain, pointers):
         cases.tree(*made(200), node_bytes=16384)
+    for first, written in (("1", NESTED_VALUES), ("T", NESTED_TYPES), ("a", NESTED_PATTERNS)):
+        for line in written.strip().splitlines():
+            nest, before = line.split(None, 1)
+            for n, answer in ((64 - int(nest), SYNTAX), (65 - int(nest), DEEP)):
+                cases.refused(f"{before} " + "(" * n + first, answer)
     # what is read and then turned down counts, a token that is only looked at does not
     for n, answer in ((1, SYNTAX), (62, SYNTAX), (63, DEEP)):
         cases.refused("const A: [T; " + "(" * n + "1" + ")" * n + "] = 1;", answer)
     for n, answer in ((63, SYNTAX), (64, SYNTAX), (65, DEEP)):
         cases.refused("const A = " + "(" * n + ";", answer)
     for n, answer in ((63, SYNTAX), (64, DEEP)):
-        cases.refused("const A = " + "(" * n + "1;", answer)
         cases.refused("const A = " + "(" * n + "1" + ")" * n + " 2;", answer)
     # what no attempt reaches does not count
     cases.refused("const A = 1 2; const B = " + "(" * 70 + "1" + ")" * 70 + ";", SYNTAX)
+    cases.refused("const A = a as " + "(" * 70 + "T", SYNTAX)
 
 
 def room_cases(cases):
@@ -2004,6 +2092,8 @@ def token_cases(cases):
         nodes = [("Name", 6, 7, 0, 0), ("Named", 9, 13, 0, named), ("Literal", 16, 17, 0, 1), ("Const", 0, 18, 3, 1)]
         nodes = [(kind, start + by, end + by, *more) for kind, start, end, *more in nodes]
         cases.case(short, tokens, TREE, nodes)
+    tokens = [(kind, suffix, end, start, value) for kind, suffix, start, end, value in tokens_of(text)]
+    cases.case(text, tokens, TREE, [("Name", 7, 6, 0, 0), ("Named", 13, 9, 0, 3), ("Literal", 17, 16, 0, 1), ("Const", 5, 17, 3, 1)])
 
 
 def all_cases():

@@ -10,7 +10,7 @@ ghost use Prim.Native.Nat.{_≤_, _<_};
 ghost use lib.ListN.{length};
 
 fn main() {
-    let mut file = [0u8; 262144];
+    let mut file = [0u8; 524288];
     let n = io::read_full(0, &mut file);
     cases(&file[..n]);
 }
