@@ -7,7 +7,7 @@ ghost use Prim.Native.Nat.{_+_, _-_, pred, min};
 ghost use Rattle.tables.specs.Tables.{tokenAt};
 ghost use Rattle.grammar.specs.Derive.{step, take, leaf, index, literal, count, close, tick, alone, literalKind, typeName, firstToken, firstPart, lastToken, lastPart, callEnd};
 ghost use Rattle.grammar.specs.Kinds.{Call};
-ghost use Rattle.grammar.specs.Grammar.{tok, op, opt, namedType, numeral, whole, operands, spanless};
+ghost use Rattle.grammar.specs.Grammar.{tok, op, opt, name, namedType, numeral, whole, operands, spanless};
 ghost use Rattle.parser.specs.Parse.{MAX16, MAX64};
 ghost use Rattle.parser.specs.Read.{Reads, Puts, Grown, Step, Free};
 ghost use Rattle.parser.specs.Steps.{Wanted, Halted, Advanced, Closed, Agreed, Restarted, Left, with-part, fresh-at, signed-at, entered, shallow, up};
@@ -145,6 +145,13 @@ impl Cursor {
         put_node(nodes, p.count, node, start, end, 0, value);
         p.count = next(p.count);
         p.part(start, end)
+    }
+
+    // Takes a name, and emits a Name.
+    pub fn spanned_ident(self, tokens: &[u8], nodes: &mut [u8]) -> Cursor
+        ensures { λ r. ⌜ Puts name (now (tokens .entry)) self (now (nodes .entry)) r (now (nodes .exit)) ⌝ }
+    {
+        self.leaf(tokens, nodes, IDENTIFIER, node_kind::NAME, 0)
     }
 
     // Takes a name, and emits a Named by its spelling.

@@ -242,7 +242,7 @@ fn postfix_op(text: &[u8], tokens: &[u8], nodes: &mut [u8], cursor: Cursor) -> C
         if q.status != FAILED {
             return q;
         }
-        let q = p.leaf(tokens, nodes, IDENTIFIER, node_kind::NAME, 0);
+        let q = p.spanned_ident(tokens, nodes);
         return q.operands(nodes, node_kind::MEMBER);
     }
     let p = cursor.take(tokens, L_BRACK);
@@ -332,7 +332,7 @@ fn struct_literal(text: &[u8], tokens: &[u8], nodes: &mut [u8], cursor: Cursor) 
     if cursor.status != READING {
         return cursor;
     }
-    let p = cursor.leaf(tokens, nodes, IDENTIFIER, node_kind::NAME, 0);
+    let p = cursor.spanned_ident(tokens, nodes);
     let p = p.take(tokens, L_BRACE);
     let p = struct_literal_fields(text, tokens, nodes, p);
     let p = p.take(tokens, R_BRACE);
@@ -367,7 +367,7 @@ fn field(text: &[u8], tokens: &[u8], nodes: &mut [u8], cursor: Cursor) -> Cursor
     if cursor.status != READING {
         return cursor;
     }
-    let p = cursor.leaf(tokens, nodes, IDENTIFIER, node_kind::NAME, 0);
+    let p = cursor.spanned_ident(tokens, nodes);
     let p = p.take(tokens, COLON);
     expr(text, tokens, nodes, p)
 }

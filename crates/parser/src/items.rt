@@ -15,7 +15,6 @@ use tables::token_type::COLON_COLON;
 use tables::token_type::COMMA;
 use tables::token_type::CONST;
 use tables::token_type::FUNCTION;
-use tables::token_type::IDENTIFIER;
 use tables::token_type::L_BRACE;
 use tables::token_type::L_PAREN;
 use tables::token_type::R_BRACE;
@@ -66,7 +65,7 @@ fn function_def(text: &[u8], tokens: &[u8], nodes: &mut [u8], cursor: Cursor) ->
     ensures { λ r. ⌜ Reads function (now (text .entry)) (now (tokens .entry)) cursor (now (nodes .entry)) r (now (nodes .exit)) ⌝ }
 {
     let p = cursor.take(tokens, FUNCTION);
-    let p = p.leaf(tokens, nodes, IDENTIFIER, node_kind::NAME, 0);
+    let p = p.spanned_ident(tokens, nodes);
     let p = p.take(tokens, L_PAREN);
     let p = params(text, tokens, nodes, p);
     let p = p.take(tokens, R_PAREN);
@@ -106,7 +105,7 @@ fn param(text: &[u8], tokens: &[u8], nodes: &mut [u8], cursor: Cursor) -> Cursor
         return cursor;
     }
     let p = cursor.enter(0);
-    let p = p.leaf(tokens, nodes, IDENTIFIER, node_kind::NAME, 0);
+    let p = p.spanned_ident(tokens, nodes);
     let p = p.take(tokens, COLON);
     let p = type_expr(text, tokens, nodes, p);
     let p = p.spanless(nodes, node_kind::PARAM);
@@ -140,7 +139,7 @@ fn struct_def(text: &[u8], tokens: &[u8], nodes: &mut [u8], cursor: Cursor) -> C
     ensures { λ r. ⌜ Reads structDef (now (text .entry)) (now (tokens .entry)) cursor (now (nodes .entry)) r (now (nodes .exit)) ⌝ }
 {
     let p = cursor.take(tokens, STRUCT);
-    let p = p.leaf(tokens, nodes, IDENTIFIER, node_kind::NAME, 0);
+    let p = p.spanned_ident(tokens, nodes);
     let p = p.take(tokens, L_BRACE);
     let p = struct_fields(text, tokens, nodes, p);
     let p = p.take(tokens, R_BRACE);
@@ -169,7 +168,7 @@ fn struct_fields(text: &[u8], tokens: &[u8], nodes: &mut [u8], cursor: Cursor) -
 fn struct_field(text: &[u8], tokens: &[u8], nodes: &mut [u8], cursor: Cursor) -> Cursor
     ensures { λ r. ⌜ Reads (field (rule type)) (now (text .entry)) (now (tokens .entry)) cursor (now (nodes .entry)) r (now (nodes .exit)) ⌝ }
 {
-    let p = cursor.leaf(tokens, nodes, IDENTIFIER, node_kind::NAME, 0);
+    let p = cursor.spanned_ident(tokens, nodes);
     let p = p.take(tokens, COLON);
     type_expr(text, tokens, nodes, p)
 }
@@ -188,7 +187,7 @@ fn use_stmt(tokens: &[u8], nodes: &mut [u8], cursor: Cursor) -> Cursor
 fn single(tokens: &[u8], nodes: &mut [u8], cursor: Cursor) -> Cursor
     ensures { λ r. ⌜ Puts useSingle (now (tokens .entry)) cursor (now (nodes .entry)) r (now (nodes .exit)) ⌝ }
 {
-    let p = cursor.leaf(tokens, nodes, IDENTIFIER, node_kind::NAME, 0);
+    let p = cursor.spanned_ident(tokens, nodes);
     let p = segments(tokens, nodes, p);
     let p = p.take(tokens, SEMICOLON);
     p.whole(tokens, nodes, node_kind::USE_SINGLE)
@@ -197,7 +196,7 @@ fn single(tokens: &[u8], nodes: &mut [u8], cursor: Cursor) -> Cursor
 fn use_list(tokens: &[u8], nodes: &mut [u8], cursor: Cursor) -> Cursor
     ensures { λ r. ⌜ Puts useList (now (tokens .entry)) cursor (now (nodes .entry)) r (now (nodes .exit)) ⌝ }
 {
-    let p = cursor.leaf(tokens, nodes, IDENTIFIER, node_kind::NAME, 0);
+    let p = cursor.spanned_ident(tokens, nodes);
     let p = p.tick();
     let p = segments(tokens, nodes, p);
     let p = p.take(tokens, COLON_COLON);
@@ -215,7 +214,7 @@ fn segments(tokens: &[u8], nodes: &mut [u8], cursor: Cursor) -> Cursor
     let mut p = cursor;
     while p.status == READING {
         let q = p.take(tokens, COLON_COLON);
-        let q = q.leaf(tokens, nodes, IDENTIFIER, node_kind::NAME, 0);
+        let q = q.spanned_ident(tokens, nodes);
         let q = q.tick();
         if q.status == FAILED {
             return p;
@@ -228,14 +227,14 @@ fn segments(tokens: &[u8], nodes: &mut [u8], cursor: Cursor) -> Cursor
 fn names(tokens: &[u8], nodes: &mut [u8], cursor: Cursor) -> Cursor
     ensures { λ r. ⌜ Puts (list name) (now (tokens .entry)) cursor (now (nodes .entry)) r (now (nodes .exit)) ⌝ }
 {
-    let p = cursor.leaf(tokens, nodes, IDENTIFIER, node_kind::NAME, 0);
+    let p = cursor.spanned_ident(tokens, nodes);
     if p.status == FAILED {
         return cursor;
     }
     let mut p = p;
     while p.status == READING {
         let q = p.take(tokens, COMMA);
-        let q = q.leaf(tokens, nodes, IDENTIFIER, node_kind::NAME, 0);
+        let q = q.spanned_ident(tokens, nodes);
         if q.status == FAILED {
             return p.skip(tokens, COMMA);
         }

@@ -7,7 +7,6 @@ use crate::cursor::FAILED;
 use crate::cursor::READING;
 use grammar::node_kind;
 use tables::token_type::COMMA;
-use tables::token_type::IDENTIFIER;
 use tables::token_type::L_PAREN;
 use tables::token_type::R_PAREN;
 
@@ -29,7 +28,7 @@ pub fn pattern(tokens: &[u8], nodes: &mut [u8], cursor: Cursor) -> Cursor
         let p = p.spanless(nodes, node_kind::PATTERN_TUPLE);
         return p.leave(cursor);
     }
-    let p = p.leaf(tokens, nodes, IDENTIFIER, node_kind::NAME, 0);
+    let p = p.spanned_ident(tokens, nodes);
     p.leave(cursor)
 }
 

@@ -17,7 +17,6 @@ use tables::token_type::CONTINUE;
 use tables::token_type::ELSE;
 use tables::token_type::EQ;
 use tables::token_type::FOR;
-use tables::token_type::IDENTIFIER;
 use tables::token_type::IF;
 use tables::token_type::L_BRACE;
 use tables::token_type::L_PAREN;
@@ -266,7 +265,7 @@ pub fn const_def(text: &[u8], tokens: &[u8], nodes: &mut [u8], cursor: Cursor) -
     ensures { λ r. ⌜ Reads constDef (now (text .entry)) (now (tokens .entry)) cursor (now (nodes .entry)) r (now (nodes .exit)) ⌝ }
 {
     let p = cursor.take(tokens, CONST);
-    let p = p.leaf(tokens, nodes, IDENTIFIER, node_kind::NAME, 0);
+    let p = p.spanned_ident(tokens, nodes);
     let p = typed(text, tokens, nodes, p);
     let p = p.take(tokens, EQ);
     let p = expr(text, tokens, nodes, p);

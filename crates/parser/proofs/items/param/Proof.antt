@@ -11,7 +11,7 @@ param-spec = tie.close (tie.spec
     (λ c. let if1 = c .if1 .taken in idle if1)
     -- enter-requires
     (λ c κs. tt)
-    -- leaf-requires
+    -- spanned-ident-requires
     (λ c κs. tt)
     -- take-requires
     (λ c κs. tt)
@@ -22,6 +22,6 @@ param-spec = tie.close (tie.spec
     -- leave-requires
     (λ c κs. tt)
     -- same-length
-    (λ c. let c3 = c .before .before .before in let kept1 = c3 .spanless .kept .1 .0 in let c7 = c3 .before .before .before .before in let kept2 = c7 .type-expr .kept .1 .1 .0 in let c12 = c7 .before .before .before .before .before in let kept3 = c12 .leaf .kept .1 .1 .0 in (kept1 ∙ kept2 ∙ kept3))
+    (λ c. let c3 = c .before .before .before in let kept1 = c3 .spanless .kept .1 .0 in let c7 = c3 .before .before .before .before in let kept2 = c7 .type-expr .kept .1 .1 .0 in let c12 = c7 .before .before .before .before .before in let kept3 = c12 .spanned-ident .kept .1 .1 .0 in (kept1 ∙ kept2 ∙ kept3))
     -- returns-2
-    (λ c. let leave = c .leave .ensures in let c3 = c .before .before .before in let spanless = c3 .spanless .ensures in let c7 = c3 .before .before .before .before in let type-expr = c7 .type-expr .ensures in let c9 = c7 .before .before in let take = c9 .take .ensures in let c12 = c9 .before .before .before in let leaf = c12 .leaf .ensures in let c14 = c12 .before .before in let enter = c14 .enter .ensures in let c15 = c14 .before in let if1 = c15 .if1 .left in by-rule G.param refl if1 enter ((one-put leaf) then (one-step take) then type-expr then (one-grown spanless)) leave))
+    (λ c. let leave = c .leave .ensures in let c3 = c .before .before .before in let spanless = c3 .spanless .ensures in let c7 = c3 .before .before .before .before in let type-expr = c7 .type-expr .ensures in let c9 = c7 .before .before in let take = c9 .take .ensures in let c12 = c9 .before .before .before in let spanned-ident = c12 .spanned-ident .ensures in let c14 = c12 .before .before in let enter = c14 .enter .ensures in let c15 = c14 .before in let if1 = c15 .if1 .left in by-rule G.param refl if1 enter ((one-put spanned-ident) then (one-step take) then type-expr then (one-grown spanless)) leave))

@@ -8,7 +8,7 @@ unfolding body
 struct-def-spec = tie.close (tie.spec
     -- take-requires
     (λ c κs. tt)
-    -- leaf-requires
+    -- spanned-ident-requires
     (λ c κs. tt)
     -- take-requires-2
     (λ c κs. tt)
@@ -19,6 +19,6 @@ struct-def-spec = tie.close (tie.spec
     -- whole-requires
     (λ c κs. tt)
     -- same-length
-    (λ c. let c2 = c .before .before in let kept1 = c2 .whole .kept .1 .1 .0 in let c7 = c2 .before .before .before .before .before in let kept2 = c7 .struct-fields .kept .1 .1 .0 in let c12 = c7 .before .before .before .before .before in let kept3 = c12 .leaf .kept .1 .1 .0 in (kept1 ∙ kept2 ∙ kept3))
+    (λ c. let c2 = c .before .before in let kept1 = c2 .whole .kept .1 .1 .0 in let c7 = c2 .before .before .before .before .before in let kept2 = c7 .struct-fields .kept .1 .1 .0 in let c12 = c7 .before .before .before .before .before in let kept3 = c12 .spanned-ident .kept .1 .1 .0 in (kept1 ∙ kept2 ∙ kept3))
     -- returns
-    (λ c. let c2 = c .before .before in let whole = c2 .whole .ensures in let c4 = c2 .before .before in let take3 = c4 .take3 .ensures in let c7 = c4 .before .before .before in let struct-fields = c7 .struct-fields .ensures in let c9 = c7 .before .before in let take2 = c9 .take2 .ensures in let c12 = c9 .before .before .before in let leaf = c12 .leaf .ensures in let c14 = c12 .before .before in let take = c14 .take .ensures in (one-step take) then (one-put leaf) then (one-step take2) then struct-fields then (one-step take3) then (one-put whole)))
+    (λ c. let c2 = c .before .before in let whole = c2 .whole .ensures in let c4 = c2 .before .before in let take3 = c4 .take3 .ensures in let c7 = c4 .before .before .before in let struct-fields = c7 .struct-fields .ensures in let c9 = c7 .before .before in let take2 = c9 .take2 .ensures in let c12 = c9 .before .before .before in let spanned-ident = c12 .spanned-ident .ensures in let c14 = c12 .before .before in let take = c14 .take .ensures in (one-step take) then (one-put spanned-ident) then (one-step take2) then struct-fields then (one-step take3) then (one-put whole)))

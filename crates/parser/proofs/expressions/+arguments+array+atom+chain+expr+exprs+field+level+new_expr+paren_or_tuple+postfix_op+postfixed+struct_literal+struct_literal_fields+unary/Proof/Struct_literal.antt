@@ -1,6 +1,6 @@
 -- The reader `struct_literal` of the cycle. Assumes nothing.
 use Rattle.parser.proofs.Reading.{_∙_, ℕ, arith, body, idle, one-put, one-step, _then_, on-put, on-step, _and-on_, further}
-use Rattle.parser.proofs.cursor.Cursor.leaf.Reads as leaf-reads
+use Rattle.parser.proofs.cursor.Cursor.spanned_ident.Reads as spanned-ident-reads
 use Rattle.parser.proofs.cursor.Cursor.take.Reads as take-reads
 use Rattle.parser.proofs.cursor.Cursor.whole.Reads as whole-reads
 use Rattle.parser.proofs.expressions.struct_literal.Reads as struct-literal
@@ -9,24 +9,24 @@ use Rattle.parser.proofs.expressions.+arguments+array+atom+chain+expr+e
 use Rattle.parser.proofs.expressions.+arguments+array+atom+chain+expr+exprs+field+level+new_expr+paren_or_tuple+postfix_op+postfixed+struct_literal+struct_literal_fields+unary.Proof.Sizes.{struct-literal-at, struct-literal-fields-below}
 
 abbrev given : ℕ → lts.Claims
-given t = (leaf-reads.Asked, leaf-reads.Learnt, take-reads.Asked, take-reads.Learnt, struct-literal-fields-below t, struct-literal-fields.Post, whole-reads.Asked, whole-reads.Learnt)
+given t = (spanned-ident-reads.Asked, spanned-ident-reads.Learnt, take-reads.Asked, take-reads.Learnt, struct-literal-fields-below t, struct-literal-fields.Post, whole-reads.Asked, whole-reads.Learnt)
 
 pub struct-literal-spec : {M : Type 1} (t : ℕ) → lts.Closed (given t) (struct-literal-at t) struct-literal.Post M
 unfolding body
 struct-literal-spec t = lts.spec (given t) (struct-literal-at t) struct-literal.Post
     -- returns
     (λ c. let if1 = c .if1 .taken in idle if1)
-    -- leaf-requires
+    -- spanned-ident-requires
     (λ c κs. tt)
     -- take-requires
     (λ c κs. tt)
     -- struct-literal-fields-requires
-    (λ c κs. let c1 = c .before in let take = c1 .take .ensures in let c4 = c1 .before .before .before in let leaf = c4 .leaf .ensures in let c6 = c4 .before .before in let if1 = c6 .if1 .left in let c11 = c6 .before .before .before .before .before in let pre = c11 .pre in (further 31 6 (pre .0) if1 (on-put leaf and-on on-step take) tt (omega arith), tt))
+    (λ c κs. let c1 = c .before in let take = c1 .take .ensures in let c4 = c1 .before .before .before in let spanned-ident = c4 .spanned-ident .ensures in let c6 = c4 .before .before in let if1 = c6 .if1 .left in let c11 = c6 .before .before .before .before .before in let pre = c11 .pre in (further 31 6 (pre .0) if1 (on-put spanned-ident and-on on-step take) tt (omega arith), tt))
     -- take-requires-2
     (λ c κs. tt)
     -- whole-requires
     (λ c κs. tt)
     -- same-length
-    (λ c. let c2 = c .before .before in let kept1 = c2 .whole .kept .1 .1 .0 in let c7 = c2 .before .before .before .before .before in let kept2 = c7 .struct-literal-fields .kept .1 .1 .0 in let c12 = c7 .before .before .before .before .before in let kept3 = c12 .leaf .kept .1 .1 .0 in (kept1 ∙ kept2 ∙ kept3))
+    (λ c. let c2 = c .before .before in let kept1 = c2 .whole .kept .1 .1 .0 in let c7 = c2 .before .before .before .before .before in let kept2 = c7 .struct-literal-fields .kept .1 .1 .0 in let c12 = c7 .before .before .before .before .before in let kept3 = c12 .spanned-ident .kept .1 .1 .0 in (kept1 ∙ kept2 ∙ kept3))
     -- returns-2
-    (λ c. let c2 = c .before .before in let whole = c2 .whole .ensures in let c4 = c2 .before .before in let take2 = c4 .take2 .ensures in let c7 = c4 .before .before .before in let struct-literal-fields = c7 .struct-literal-fields .ensures in let c9 = c7 .before .before in let take = c9 .take .ensures in let c12 = c9 .before .before .before in let leaf = c12 .leaf .ensures in (one-put leaf) then (one-step take) then struct-literal-fields then (one-step take2) then (one-put whole))
+    (λ c. let c2 = c .before .before in let whole = c2 .whole .ensures in let c4 = c2 .before .before in let take2 = c4 .take2 .ensures in let c7 = c4 .before .before .before in let struct-literal-fields = c7 .struct-literal-fields .ensures in let c9 = c7 .before .before in let take = c9 .take .ensures in let c12 = c9 .before .before .before in let spanned-ident = c12 .spanned-ident .ensures in (one-put spanned-ident) then (one-step take) then struct-literal-fields then (one-step take2) then (one-put whole))

@@ -2,10 +2,10 @@
 use Rattle.parser.proofs.Reading.{refl, _∙_, ℕ, arith, body, puts, idle, one-put, one-grown, one-step, _then_, only, pass, by-rule, on-put, on-step, at-in, _and-on_, further}
 use Rattle.grammar.specs.Derive as G
 use Rattle.parser.proofs.cursor.Cursor.enter.Reads as enter-reads
-use Rattle.parser.proofs.cursor.Cursor.leaf.Reads as leaf-reads
 use Rattle.parser.proofs.cursor.Cursor.leave.Reads as leave-reads
 use Rattle.parser.proofs.cursor.Cursor.peek.Reads as peek-reads
 use Rattle.parser.proofs.cursor.Cursor.spanless.Reads as spanless-reads
+use Rattle.parser.proofs.cursor.Cursor.spanned_ident.Reads as spanned-ident-reads
 use Rattle.parser.proofs.cursor.Cursor.take.Reads as take-reads
 use Rattle.parser.proofs.let_pattern.pattern.Reads as pattern
 use Rattle.parser.proofs.let_pattern.patterns.Reads as patterns
@@ -13,7 +13,7 @@ use Rattle.parser.proofs.let_pattern.+pattern+patterns.Lts-pattern as l
 use Rattle.parser.proofs.let_pattern.+pattern+patterns.Proof.Sizes.{pattern-at, pattern-below, patterns-below}
 
 abbrev given : ℕ → lts.Claims
-given t = (enter-reads.Asked, enter-reads.Learnt, peek-reads.Asked, peek-reads.Learnt, take-reads.Asked, take-reads.Learnt, pattern-below t, pattern.Post, patterns-below t, patterns.Post, spanless-reads.Asked, spanless-reads.Learnt, leave-reads.Asked, leave-reads.Learnt, leaf-reads.Asked, leaf-reads.Learnt)
+given t = (enter-reads.Asked, enter-reads.Learnt, peek-reads.Asked, peek-reads.Learnt, take-reads.Asked, take-reads.Learnt, pattern-below t, pattern.Post, patterns-below t, patterns.Post, spanless-reads.Asked, spanless-reads.Learnt, leave-reads.Asked, leave-reads.Learnt, spanned-ident-reads.Asked, spanned-ident-reads.Learnt)
 
 pub pattern-spec : {M : Type 1} (t : ℕ) → lts.Closed (given t) (pattern-at t) pattern.Post M
 unfolding body
@@ -44,11 +44,11 @@ pattern-spec t = lts.spec (given t) (pattern-at t) pattern.Post
     (λ c. let c3 = c .before .before .before in let kept1 = c3 .spanless .kept .1 .0 in let c8 = c3 .before .before .before .before .before in let kept2 = c8 .patterns .kept .1 .0 in let c12 = c8 .before .before .before .before in let kept3 = c12 .pattern2 .kept .1 .0 in let c17 = c12 .before .before .before .before .before in let kept4 = c17 .pattern .kept .1 .0 in (kept1 ∙ kept2 ∙ kept3 ∙ kept4))
     -- returns-2
     (λ c. let leave = c .leave .ensures in let c3 = c .before .before .before in let spanless = c3 .spanless .ensures in let c5 = c3 .before .before in let take3 = c5 .take3 .ensures in let c8 = c5 .before .before .before in let patterns = c8 .patterns .ensures in let c12 = c8 .before .before .before .before in let pattern2 = c12 .pattern2 .ensures in let c14 = c12 .before .before in let take2 = c14 .take2 .ensures in let c17 = c14 .before .before .before in let pattern = c17 .pattern .ensures in let c19 = c17 .before .before in let take = c19 .take .ensures in let c20 = c19 .before in let if2 = c20 .if2 .taken in let c21 = c20 .before in let peek = c21 .peek .ensures in let c22 = c21 .before in let enter = c22 .enter .ensures in let c23 = c22 .before in let if1 = c23 .if1 .left in puts (λ text. by-rule G.pattern refl if1 enter (only peek if2 tt ((one-step take) then (one-put pattern) then (one-step take2) then (one-put pattern2) then (one-put patterns) then (one-step take3) then (one-grown spanless))) leave))
-    -- leaf-requires
+    -- spanned-ident-requires
     (λ c κs. tt)
     -- leave-requires-2
     (λ c κs. tt)
     -- same-length-2
-    (λ c. let c3 = c .before .before .before in let kept1 = c3 .leaf .kept .1 .1 .0 in (kept1))
+    (λ c. let c3 = c .before .before .before in let kept1 = c3 .spanned-ident .kept .1 .1 .0 in (kept1))
     -- returns-3
-    (λ c. let leave2 = c .leave2 .ensures in let c3 = c .before .before .before in let leaf = c3 .leaf .ensures in let c5 = c3 .before .before in let if2 = c5 .if2 .left in let c6 = c5 .before in let peek = c6 .peek .ensures in let c7 = c6 .before in let enter = c7 .enter .ensures in let c8 = c7 .before in let if1 = c8 .if1 .left in puts (λ text. by-rule G.pattern refl if1 enter (pass peek (if2, tt) tt ((one-put leaf))) leave2))
+    (λ c. let leave2 = c .leave2 .ensures in let c3 = c .before .before .before in let spanned-ident = c3 .spanned-ident .ensures in let c5 = c3 .before .before in let if2 = c5 .if2 .left in let c6 = c5 .before in let peek = c6 .peek .ensures in let c7 = c6 .before in let enter = c7 .enter .ensures in let c8 = c7 .before in let if1 = c8 .if1 .left in puts (λ text. by-rule G.pattern refl if1 enter (pass peek (if2, tt) tt ((one-put spanned-ident))) leave2))
