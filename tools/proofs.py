@@ -17,6 +17,8 @@ MOD = "Rattle.parser.proofs."
 READ = {"Reads": ("", "on"), "Puts": ("one-put", "on-put"), "Grown": ("one-grown", "on-grown"), "Step": ("one-step", "on-step"), "Free": ("one-free", "on-free")}
 OWN = {"Reads": "", "Puts": "λ text. ", "Grown": "λ text w. ", "Step": "λ text T. ", "Free": "λ text w T. "}
 MAKE = {"Puts": "puts", "Grown": "grown", "Step": "steps", "Free": "free"}
+# the forms of parameters that proofs/Cycles has measures for
+FORMS = {("text", "tokens", "nodes", "cursor"): "reader", ("text", "tokens", "nodes", "cursor", "n"): "level", ("tokens", "nodes", "cursor"): "pattern"}
 WORD = r"(?<![\w.·-])[a-z][a-z0-9-]*(?![\w·-])"
 dash = lambda f: f.replace("_", "-")
 
@@ -337,7 +339,7 @@ def alone(fn, recipe):
     return {f"{path}/Proof.antt": f"-- `{fn.name}` meets its contract. Assumes nothing.\n" + uses(s) + f"use {mod}.Statement.{{statement}}\nuse {mod}.Tie as tie\n" + s}
 
 def cycle(fns, rs):
-    """one file for each reader of a cycle of calls, one for their measures, and one that ties them"""
+    """one file for each reader of a cycle of calls, and one that ties them"""
     fns = sorted(fns, key=lambda f: f.name)
     where = fns[0].module
     name = "".join("+" + f.name for f in fns)
@@ -346,15 +348,7 @@ def cycle(fns, rs):
     ranks = {dash(f.name): rs[f.name]["rank"] for f in fns}
     at = {dash(f.name): MOD + (where + f.name).replace("/", ".") for f in fns}
     lts = {dash(f.name): PLACES[f.name] for f in fns}
-    s = "-- The measures of a cycle of readers: by the tokens left, then by rank; and what is given and asked of each. Assumes nothing.\n"
-    s += "use Prim.Native.Nat.{ℕ, _<_, _+_}\nuse borrow.Fn.Kinds.{In}\nuse borrow.Fn.PlainCycle.{Measures, is, falls, and}\nuse " + MOD + "Falls.{size}\n"
-    for f in members: s += f"use {at[f]}.Reads as {f}\nuse {at[f]}.Kinds as {f}-kinds\n"
-    for f, fn in zip(members, fns):
-        n, arg = lts[f].lifetimes, lambda x: "a" + " .1" * fn.params.index(x) + " .0"
-        s += f"\nabbrev pub μ-{f} : Measures {n} {f}-kinds.ps ℕ\nμ-{f} κs a = size ({arg('tokens')} .now) ({arg('cursor')}) {ranks[f]}\n"
-        s += f"\nabbrev pub {f}-at : ℕ → In {n} {f}-kinds.ps\n{f}-at t = and {n} {f}-kinds.ps (is {n} {f}-kinds.ps μ-{f} t) {f}.Pre\n"
-        s += f"\nabbrev pub {f}-below : ℕ → In {n} {f}-kinds.ps\n{f}-below t = and {n} {f}-kinds.ps (falls {n} {f}-kinds.ps _<_ μ-{f} t) {f}.Pre\n"
-    files[f"{where}{name}/Proof/Sizes.antt"] = s
+    form = {dash(f.name): FORMS[tuple(f.params)] for f in fns}
     cap = lambda f: f.replace("-", "_").capitalize()
     for f, fn in zip(members, fns):
         r = Reader(fn, rs[fn.name], lts[f], ranks, FAR)
@@ -363,18 +357,18 @@ def cycle(fns, rs):
         for c in lts[f].callees:
             parts = c.split("::"); g = dash(parts[-1])
             crate = "Rattle.parser.proofs." if parts[0] == "parser" else f"Rattle.{parts[0]}.proofs."
-            if g in members and parts[0] == "parser" and FNS[parts[-1]].module == where: given += [f"{g}-below t", f"{g}.Post"]; below.append(f"{g}-below"); own.add(f"use {at[g]}.Reads as {g}")
+            if g in members and parts[0] == "parser" and FNS[parts[-1]].module == where: given += [f"{form[g]}-below {ranks[g]} t", f"{g}.Post"]; below.append(f"{form[g]}-below"); own.add(f"use {at[g]}.Reads as {g}")
             else: given += [f"{g}-reads.Asked", f"{g}-reads.Learnt"]; own.add(f"use {crate}{'.'.join(parts[1:])}.Reads as {g}-reads")
         s = f"\nabbrev given : ℕ → lts.Claims\ngiven t = ({', '.join(given)})\n" + r.invariants("lts")
         opens = " ".join(["body"] + rs[fn.name].get("opens", "").split())
-        s += f"\npub {f}-spec : {{M : Type 1}} (t : ℕ) → lts.Closed (given t) ({f}-at t) {f}.Post M\nunfolding {opens}\n{f}-spec t = lts.spec (given t) ({f}-at t) {f}.Post" + (" Inv-loop μ-loop" if r.loop else "") + "\n"
+        s += f"\npub {f}-spec : {{M : Type 1}} (t : ℕ) → lts.Closed (given t) ({form[f]}-at {ranks[f]} t) {f}.Post M\nunfolding {opens}\n{f}-spec t = lts.spec (given t) ({form[f]}-at {ranks[f]} t) {f}.Post" + (" Inv-loop μ-loop" if r.loop else "") + "\n"
         s += "".join(r.answer(n, members) for n in lts[f].needs)
-        head = f"-- The reader `{fn.name}` of the cycle. Assumes nothing.\n" + uses(s + " ℕ") + "\n".join(sorted(own)) + f"\nuse {mod}.Lts-{fn.name} as lts\nuse {mod}.Proof.Sizes.{{" + ", ".join([f"{f}-at"] + sorted(set(below))) + "}\n"
+        head = f"-- The reader `{fn.name}` of the cycle. Assumes nothing.\n" + uses(s + " ℕ") + "\n".join(sorted(own)) + f"\nuse {mod}.Lts-{fn.name} as lts\nuse {MOD}Cycles.{{" + ", ".join(sorted({f"{form[f]}-at", *below})) + "}\n"
         files[f"{where}{name}/Proof/{cap(f)}.antt"] = head + s
     spec = dash(name)
-    s = "-- The proof of a cycle of readers: a file for each, and their measures in Sizes. Assumes nothing.\nmod Sizes\n" + "".join(f"mod {cap(f)}\n" for f in members)
-    s += "use Sizes.{" + ", ".join("μ-" + f for f in members) + "}\n" + "".join(f"use {cap(f)}.{{{f}-spec}}\n" for f in members)
-    s += f"use {mod}.{{statement}}\nuse {mod}.Tie.{{close}}\n\npub {spec}-spec : {{M : Type 1}} → statement M\n{spec}-spec = close " + " ".join("μ-" + f for f in members) + " " + " ".join(f + "-spec" for f in members) + "\n"
+    s = "-- The proof of a cycle of readers: a file for each. Assumes nothing.\n" + "".join(f"mod {cap(f)}\n" for f in members) + "".join(f"use {cap(f)}.{{{f}-spec}}\n" for f in members)
+    s += f"use {MOD}Cycles.{{" + ", ".join(sorted({"μ-" + form[f] for f in members})) + "}\n"
+    s += f"use {mod}.{{statement}}\nuse {mod}.Tie.{{close}}\n\npub {spec}-spec : {{M : Type 1}} → statement M\n{spec}-spec = close " + " ".join(f"(μ-{form[f]} {ranks[f]})" for f in members) + " " + " ".join(f + "-spec" for f in members) + "\n"
     files[f"{where}{name}/Proof.antt"] = s
     return files
 

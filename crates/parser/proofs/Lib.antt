@@ -3,6 +3,7 @@ pub mod Cursors
 pub mod Holding
 pub mod Laws
 pub mod Falls
+pub mod Cycles
 pub mod Loops
 pub mod Lists
 pub mod Shapes

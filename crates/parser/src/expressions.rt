@@ -41,7 +41,7 @@ pub fn expr(text: &[u8], tokens: &[u8], nodes: &mut [u8], cursor: Cursor) -> Cur
 }
 
 // The nth binary level, tightest first, over casts: each level goes on from what the level below has read.
-fn level(text: &[u8], tokens: &[u8], nodes: &mut [u8], cursor: Cursor, n: u8) -> Cursor
+pub(crate) fn level(text: &[u8], tokens: &[u8], nodes: &mut [u8], cursor: Cursor, n: u8) -> Cursor
     ensures { λ r. ⌜ Reads (rule (level n)) (now (text .entry)) (now (tokens .entry)) cursor (now (nodes .entry)) r (now (nodes .exit)) ⌝ }
 {
     if cursor.status != READING {

@@ -1,5 +1,4 @@
--- The proof of a cycle of readers: a file for each, and their measures in Sizes. Assumes nothing.
-mod Sizes
+-- The proof of a cycle of readers: a file for each. Assumes nothing.
 mod Arguments
 mod Array
 mod Atom
@@ -15,7 +14,6 @@ mod Postfixed
 mod Struct_literal
 mod Struct_literal_fields
 mod Unary
-use Sizes.{μ-arguments, μ-array, μ-atom, μ-chain, μ-expr, μ-exprs, μ-field, μ-level, μ-new-expr, μ-paren-or-tuple, μ-postfix-op, μ-postfixed, μ-struct-literal, μ-struct-literal-fields, μ-unary}
 use Arguments.{arguments-spec}
 use Array.{array-spec}
 use Atom.{atom-spec}
@@ -31,8 +29,9 @@ use Postfixed.{postfixed-spec}
 use Struct_literal.{struct-literal-spec}
 use Struct_literal_fields.{struct-literal-fields-spec}
 use Unary.{unary-spec}
+use Rattle.parser.proofs.Cycles.{μ-level, μ-reader}
 use Rattle.parser.proofs.expressions.+arguments+array+atom+chain+expr+exprs+field+level+new_expr+paren_or_tuple+postfix_op+postfixed+struct_literal+struct_literal_fields+unary.{statement}
 use Rattle.parser.proofs.expressions.+arguments+array+atom+chain+expr+exprs+field+level+new_expr+paren_or_tuple+postfix_op+postfixed+struct_literal+struct_literal_fields+unary.Tie.{close}
 
 pub +arguments+array+atom+chain+expr+exprs+field+level+new-expr+paren-or-tuple+postfix-op+postfixed+struct-literal+struct-literal-fields+unary-spec : {M : Type 1} → statement M
-+arguments+array+atom+chain+expr+exprs+field+level+new-expr+paren-or-tuple+postfix-op+postfixed+struct-literal+struct-literal-fields+unary-spec = close μ-arguments μ-array μ-atom μ-chain μ-expr μ-exprs μ-field μ-level μ-new-expr μ-paren-or-tuple μ-postfix-op μ-postfixed μ-struct-literal μ-struct-literal-fields μ-unary arguments-spec array-spec atom-spec chain-spec expr-spec exprs-spec field-spec level-spec new-expr-spec paren-or-tuple-spec postfix-op-spec postfixed-spec struct-literal-spec struct-literal-fields-spec unary-spec
++arguments+array+atom+chain+expr+exprs+field+level+new-expr+paren-or-tuple+postfix-op+postfixed+struct-literal+struct-literal-fields+unary-spec = close (μ-reader 31) (μ-reader 6) (μ-reader 7) (μ-level 3) (μ-reader 30) (μ-reader 3) (μ-reader 5) (μ-level 20) (μ-reader 6) (μ-reader 6) (μ-reader 4) (μ-reader 8) (μ-reader 6) (μ-reader 31) (μ-reader 9) arguments-spec array-spec atom-spec chain-spec expr-spec exprs-spec field-spec level-spec new-expr-spec paren-or-tuple-spec postfix-op-spec postfixed-spec struct-literal-spec struct-literal-fields-spec unary-spec

@@ -1,5 +1,4 @@
--- The proof of a cycle of readers: a file for each, and their measures in Sizes. Assumes nothing.
-mod Sizes
+-- The proof of a cycle of readers: a file for each. Assumes nothing.
 mod Block
 mod Choice
 mod Else_block
@@ -9,7 +8,6 @@ mod Loop_stmt
 mod Stmt
 mod Stmts
 mod While_stmt
-use Sizes.{μ-block, μ-choice, μ-else-block, μ-for-stmt, μ-if-stmt, μ-loop-stmt, μ-stmt, μ-stmts, μ-while-stmt}
 use Block.{block-spec}
 use Choice.{choice-spec}
 use Else_block.{else-block-spec}
@@ -19,8 +17,9 @@ use Loop_stmt.{loop-stmt-spec}
 use Stmt.{stmt-spec}
 use Stmts.{stmts-spec}
 use While_stmt.{while-stmt-spec}
+use Rattle.parser.proofs.Cycles.{μ-reader}
 use Rattle.parser.proofs.statements.+block+choice+else_block+for_stmt+if_stmt+loop_stmt+stmt+stmts+while_stmt.{statement}
 use Rattle.parser.proofs.statements.+block+choice+else_block+for_stmt+if_stmt+loop_stmt+stmt+stmts+while_stmt.Tie.{close}
 
 pub +block+choice+else-block+for-stmt+if-stmt+loop-stmt+stmt+stmts+while-stmt-spec : {M : Type 1} → statement M
-+block+choice+else-block+for-stmt+if-stmt+loop-stmt+stmt+stmts+while-stmt-spec = close μ-block μ-choice μ-else-block μ-for-stmt μ-if-stmt μ-loop-stmt μ-stmt μ-stmts μ-while-stmt block-spec choice-spec else-block-spec for-stmt-spec if-stmt-spec loop-stmt-spec stmt-spec stmts-spec while-stmt-spec
++block+choice+else-block+for-stmt+if-stmt+loop-stmt+stmt+stmts+while-stmt-spec = close (μ-reader 18) (μ-reader 19) (μ-reader 3) (μ-reader 18) (μ-reader 18) (μ-reader 18) (μ-reader 20) (μ-reader 21) (μ-reader 18) block-spec choice-spec else-block-spec for-stmt-spec if-stmt-spec loop-stmt-spec stmt-spec stmts-spec while-stmt-spec

@@ -1,14 +1,13 @@
--- The proof of a cycle of readers: a file for each, and their measures in Sizes. Assumes nothing.
-mod Sizes
+-- The proof of a cycle of readers: a file for each. Assumes nothing.
 mod Alloc_base
 mod Alloc_entries
 mod Alloc_type_expr
-use Sizes.{μ-alloc-base, μ-alloc-entries, μ-alloc-type-expr}
 use Alloc_base.{alloc-base-spec}
 use Alloc_entries.{alloc-entries-spec}
 use Alloc_type_expr.{alloc-type-expr-spec}
+use Rattle.parser.proofs.Cycles.{μ-reader}
 use Rattle.parser.proofs.types.+alloc_base+alloc_entries+alloc_type_expr.{statement}
 use Rattle.parser.proofs.types.+alloc_base+alloc_entries+alloc_type_expr.Tie.{close}
 
 pub +alloc-base+alloc-entries+alloc-type-expr-spec : {M : Type 1} → statement M
-+alloc-base+alloc-entries+alloc-type-expr-spec = close μ-alloc-base μ-alloc-entries μ-alloc-type-expr alloc-base-spec alloc-entries-spec alloc-type-expr-spec
++alloc-base+alloc-entries+alloc-type-expr-spec = close (μ-reader 3) (μ-reader 6) (μ-reader 4) alloc-base-spec alloc-entries-spec alloc-type-expr-spec

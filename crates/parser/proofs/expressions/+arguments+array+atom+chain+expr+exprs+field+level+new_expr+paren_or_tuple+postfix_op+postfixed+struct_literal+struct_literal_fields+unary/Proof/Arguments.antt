@@ -5,14 +5,14 @@ use Rattle.parser.proofs.expressions.arguments.Reads as arguments
 use Rattle.parser.proofs.expressions.expr.Reads as expr
 use Rattle.parser.proofs.expressions.exprs.Reads as exprs
 use Rattle.parser.proofs.expressions.+arguments+array+atom+chain+expr+exprs+field+level+new_expr+paren_or_tuple+postfix_op+postfixed+struct_literal+struct_literal_fields+unary.Lts-arguments as lts
-use Rattle.parser.proofs.expressions.+arguments+array+atom+chain+expr+exprs+field+level+new_expr+paren_or_tuple+postfix_op+postfixed+struct_literal+struct_literal_fields+unary.Proof.Sizes.{arguments-at, expr-below, exprs-below}
+use Rattle.parser.proofs.Cycles.{reader-at, reader-below}
 
 abbrev given : ℕ → lts.Claims
-given t = (expr-below t, expr.Post, exprs-below t, exprs.Post, skip-reads.Asked, skip-reads.Learnt)
+given t = (reader-below 30 t, expr.Post, reader-below 3 t, exprs.Post, skip-reads.Asked, skip-reads.Learnt)
 
-pub arguments-spec : {M : Type 1} (t : ℕ) → lts.Closed (given t) (arguments-at t) arguments.Post M
+pub arguments-spec : {M : Type 1} (t : ℕ) → lts.Closed (given t) (reader-at 31 t) arguments.Post M
 unfolding body
-arguments-spec t = lts.spec (given t) (arguments-at t) arguments.Post
+arguments-spec t = lts.spec (given t) (reader-at 31 t) arguments.Post
     -- returns
     (λ c. let if1 = c .if1 .taken in idle if1)
     -- expr-requires

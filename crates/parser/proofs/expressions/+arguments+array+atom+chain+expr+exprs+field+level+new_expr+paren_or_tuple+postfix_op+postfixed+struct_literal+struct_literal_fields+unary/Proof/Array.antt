@@ -9,14 +9,14 @@ use Rattle.parser.proofs.expressions.expr.Reads as expr
 use Rattle.parser.proofs.expressions.exprs.Reads as exprs
 use Rattle.parser.proofs.expressions.repeat_count.Reads as repeat-count-reads
 use Rattle.parser.proofs.expressions.+arguments+array+atom+chain+expr+exprs+field+level+new_expr+paren_or_tuple+postfix_op+postfixed+struct_literal+struct_literal_fields+unary.Lts-array as lts
-use Rattle.parser.proofs.expressions.+arguments+array+atom+chain+expr+exprs+field+level+new_expr+paren_or_tuple+postfix_op+postfixed+struct_literal+struct_literal_fields+unary.Proof.Sizes.{array-at, expr-below, exprs-below}
+use Rattle.parser.proofs.Cycles.{reader-at, reader-below}
 
 abbrev given : ℕ → lts.Claims
-given t = (take-reads.Asked, take-reads.Learnt, expr-below t, expr.Post, whole-reads.Asked, whole-reads.Learnt, peek-reads.Asked, peek-reads.Learnt, repeat-count-reads.Asked, repeat-count-reads.Learnt, exprs-below t, exprs.Post, skip-reads.Asked, skip-reads.Learnt)
+given t = (take-reads.Asked, take-reads.Learnt, reader-below 30 t, expr.Post, whole-reads.Asked, whole-reads.Learnt, peek-reads.Asked, peek-reads.Learnt, repeat-count-reads.Asked, repeat-count-reads.Learnt, reader-below 3 t, exprs.Post, skip-reads.Asked, skip-reads.Learnt)
 
-pub array-spec : {M : Type 1} (t : ℕ) → lts.Closed (given t) (array-at t) array.Post M
+pub array-spec : {M : Type 1} (t : ℕ) → lts.Closed (given t) (reader-at 6 t) array.Post M
 unfolding body
-array-spec t = lts.spec (given t) (array-at t) array.Post
+array-spec t = lts.spec (given t) (reader-at 6 t) array.Post
     -- returns
     (λ c. let if1 = c .if1 .taken in idle if1)
     -- take-requires

@@ -9,14 +9,14 @@ use Rattle.parser.proofs.expressions.new_expr.Reads as new-expr
 use Rattle.parser.proofs.expressions.paren_or_tuple.Reads as paren-or-tuple
 use Rattle.parser.proofs.expressions.struct_literal.Reads as struct-literal
 use Rattle.parser.proofs.expressions.+arguments+array+atom+chain+expr+exprs+field+level+new_expr+paren_or_tuple+postfix_op+postfixed+struct_literal+struct_literal_fields+unary.Lts-atom as lts
-use Rattle.parser.proofs.expressions.+arguments+array+atom+chain+expr+exprs+field+level+new_expr+paren_or_tuple+postfix_op+postfixed+struct_literal+struct_literal_fields+unary.Proof.Sizes.{atom-at, array-below, new-expr-below, paren-or-tuple-below, struct-literal-below}
+use Rattle.parser.proofs.Cycles.{reader-at, reader-below}
 
 abbrev given : ℕ → lts.Claims
-given t = (peek-reads.Asked, peek-reads.Learnt, literal-reads.Asked, literal-reads.Learnt, leaf-reads.Asked, leaf-reads.Learnt, new-expr-below t, new-expr.Post, struct-literal-below t, struct-literal.Post, array-below t, array.Post, paren-or-tuple-below t, paren-or-tuple.Post)
+given t = (peek-reads.Asked, peek-reads.Learnt, literal-reads.Asked, literal-reads.Learnt, leaf-reads.Asked, leaf-reads.Learnt, reader-below 6 t, new-expr.Post, reader-below 6 t, struct-literal.Post, reader-below 6 t, array.Post, reader-below 6 t, paren-or-tuple.Post)
 
-pub atom-spec : {M : Type 1} (t : ℕ) → lts.Closed (given t) (atom-at t) atom.Post M
+pub atom-spec : {M : Type 1} (t : ℕ) → lts.Closed (given t) (reader-at 7 t) atom.Post M
 unfolding body
-atom-spec t = lts.spec (given t) (atom-at t) atom.Post
+atom-spec t = lts.spec (given t) (reader-at 7 t) atom.Post
     -- returns
     (λ c. let if1 = c .if1 .taken in idle if1)
     -- peek-requires

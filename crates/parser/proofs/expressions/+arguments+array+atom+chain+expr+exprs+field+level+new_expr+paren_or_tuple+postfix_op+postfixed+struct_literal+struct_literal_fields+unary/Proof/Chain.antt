@@ -6,10 +6,10 @@ use Rattle.parser.proofs.expressions.chain.Reads as chain
 use Rattle.parser.proofs.expressions.level.Reads as level
 use Rattle.parser.proofs.expressions.operator.Reads as operator-reads
 use Rattle.parser.proofs.expressions.+arguments+array+atom+chain+expr+exprs+field+level+new_expr+paren_or_tuple+postfix_op+postfixed+struct_literal+struct_literal_fields+unary.Lts-chain as lts
-use Rattle.parser.proofs.expressions.+arguments+array+atom+chain+expr+exprs+field+level+new_expr+paren_or_tuple+postfix_op+postfixed+struct_literal+struct_literal_fields+unary.Proof.Sizes.{chain-at, level-below}
+use Rattle.parser.proofs.Cycles.{level-at, level-below}
 
 abbrev given : ℕ → lts.Claims
-given t = (operator-reads.Asked, operator-reads.Learnt, level-below t, level.Post, operands-reads.Asked, operands-reads.Learnt)
+given t = (operator-reads.Asked, operator-reads.Learnt, level-below 20 t, level.Post, operands-reads.Asked, operands-reads.Learnt)
 
 abbrev Inv-loop : lts.InvT-loop
 Inv-loop text tokens nodes₀ n p₀ nodes p = Looping text tokens (L.link n) p₀ nodes₀ p nodes
@@ -17,9 +17,9 @@ Inv-loop text tokens nodes₀ n p₀ nodes p = Looping text tokens (L.link n) p�
 abbrev μ-loop : lts.MeasureT-loop
 μ-loop text tokens nodes₀ n p₀ nodes p = size tokens p 0
 
-pub chain-spec : {M : Type 1} (t : ℕ) → lts.Closed (given t) (chain-at t) chain.Post M
+pub chain-spec : {M : Type 1} (t : ℕ) → lts.Closed (given t) (level-at 3 t) chain.Post M
 unfolding body
-chain-spec t = lts.spec (given t) (chain-at t) chain.Post Inv-loop μ-loop
+chain-spec t = lts.spec (given t) (level-at 3 t) chain.Post Inv-loop μ-loop
     -- loop-holds
     (λ c. rounds-begin)
     -- operator-requires

@@ -6,14 +6,14 @@ use Rattle.parser.proofs.cursor.Cursor.leave.Reads as leave-reads
 use Rattle.parser.proofs.expressions.expr.Reads as expr
 use Rattle.parser.proofs.expressions.level.Reads as level
 use Rattle.parser.proofs.expressions.+arguments+array+atom+chain+expr+exprs+field+level+new_expr+paren_or_tuple+postfix_op+postfixed+struct_literal+struct_literal_fields+unary.Lts-expr as lts
-use Rattle.parser.proofs.expressions.+arguments+array+atom+chain+expr+exprs+field+level+new_expr+paren_or_tuple+postfix_op+postfixed+struct_literal+struct_literal_fields+unary.Proof.Sizes.{expr-at, level-below}
+use Rattle.parser.proofs.Cycles.{level-below, reader-at}
 
 abbrev given : ℕ → lts.Claims
-given t = (enter-reads.Asked, enter-reads.Learnt, level-below t, level.Post, leave-reads.Asked, leave-reads.Learnt)
+given t = (enter-reads.Asked, enter-reads.Learnt, level-below 20 t, level.Post, leave-reads.Asked, leave-reads.Learnt)
 
-pub expr-spec : {M : Type 1} (t : ℕ) → lts.Closed (given t) (expr-at t) expr.Post M
+pub expr-spec : {M : Type 1} (t : ℕ) → lts.Closed (given t) (reader-at 30 t) expr.Post M
 unfolding body
-expr-spec t = lts.spec (given t) (expr-at t) expr.Post
+expr-spec t = lts.spec (given t) (reader-at 30 t) expr.Post
     -- returns
     (λ c. let if1 = c .if1 .taken in idle if1)
     -- enter-requires

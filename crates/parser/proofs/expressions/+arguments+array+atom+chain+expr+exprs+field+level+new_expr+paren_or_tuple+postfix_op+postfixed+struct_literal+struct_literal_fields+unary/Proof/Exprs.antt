@@ -6,10 +6,10 @@ use Rattle.parser.proofs.cursor.Cursor.take.Reads as take-reads
 use Rattle.parser.proofs.expressions.expr.Reads as expr
 use Rattle.parser.proofs.expressions.exprs.Reads as exprs
 use Rattle.parser.proofs.expressions.+arguments+array+atom+chain+expr+exprs+field+level+new_expr+paren_or_tuple+postfix_op+postfixed+struct_literal+struct_literal_fields+unary.Lts-exprs as lts
-use Rattle.parser.proofs.expressions.+arguments+array+atom+chain+expr+exprs+field+level+new_expr+paren_or_tuple+postfix_op+postfixed+struct_literal+struct_literal_fields+unary.Proof.Sizes.{exprs-at, expr-below}
+use Rattle.parser.proofs.Cycles.{reader-at, reader-below}
 
 abbrev given : ℕ → lts.Claims
-given t = (take-reads.Asked, take-reads.Learnt, expr-below t, expr.Post)
+given t = (take-reads.Asked, take-reads.Learnt, reader-below 30 t, expr.Post)
 
 abbrev Inv-loop : lts.InvT-loop
 Inv-loop text tokens nodes₀ p₀ nodes p = Looping text tokens (L.another (G.rule G.expr)) p₀ nodes₀ p nodes
@@ -17,9 +17,9 @@ Inv-loop text tokens nodes₀ p₀ nodes p = Looping text tokens (L.another (G.r
 abbrev μ-loop : lts.MeasureT-loop
 μ-loop text tokens nodes₀ p₀ nodes p = size tokens p 0
 
-pub exprs-spec : {M : Type 1} (t : ℕ) → lts.Closed (given t) (exprs-at t) exprs.Post M
+pub exprs-spec : {M : Type 1} (t : ℕ) → lts.Closed (given t) (reader-at 3 t) exprs.Post M
 unfolding body
-exprs-spec t = lts.spec (given t) (exprs-at t) exprs.Post Inv-loop μ-loop
+exprs-spec t = lts.spec (given t) (reader-at 3 t) exprs.Post Inv-loop μ-loop
     -- loop-holds
     (λ c. rounds-begin)
     -- take-requires

@@ -5,14 +5,14 @@ use Rattle.parser.proofs.cursor.Cursor.take.Reads as take-reads
 use Rattle.parser.proofs.expressions.expr.Reads as expr
 use Rattle.parser.proofs.expressions.field.Reads as field
 use Rattle.parser.proofs.expressions.+arguments+array+atom+chain+expr+exprs+field+level+new_expr+paren_or_tuple+postfix_op+postfixed+struct_literal+struct_literal_fields+unary.Lts-field as lts
-use Rattle.parser.proofs.expressions.+arguments+array+atom+chain+expr+exprs+field+level+new_expr+paren_or_tuple+postfix_op+postfixed+struct_literal+struct_literal_fields+unary.Proof.Sizes.{field-at, expr-below}
+use Rattle.parser.proofs.Cycles.{reader-at, reader-below}
 
 abbrev given : ℕ → lts.Claims
-given t = (spanned-ident-reads.Asked, spanned-ident-reads.Learnt, take-reads.Asked, take-reads.Learnt, expr-below t, expr.Post)
+given t = (spanned-ident-reads.Asked, spanned-ident-reads.Learnt, take-reads.Asked, take-reads.Learnt, reader-below 30 t, expr.Post)
 
-pub field-spec : {M : Type 1} (t : ℕ) → lts.Closed (given t) (field-at t) field.Post M
+pub field-spec : {M : Type 1} (t : ℕ) → lts.Closed (given t) (reader-at 5 t) field.Post M
 unfolding body
-field-spec t = lts.spec (given t) (field-at t) field.Post
+field-spec t = lts.spec (given t) (reader-at 5 t) field.Post
     -- returns
     (λ c. let if1 = c .if1 .taken in idle if1)
     -- spanned-ident-requires

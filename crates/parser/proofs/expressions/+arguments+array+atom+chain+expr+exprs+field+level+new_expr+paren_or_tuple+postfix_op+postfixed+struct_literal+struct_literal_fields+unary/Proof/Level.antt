@@ -8,10 +8,10 @@ use Rattle.parser.proofs.expressions.chain.Reads as chain
 use Rattle.parser.proofs.expressions.level.Reads as level
 use Rattle.parser.proofs.expressions.unary.Reads as unary
 use Rattle.parser.proofs.expressions.+arguments+array+atom+chain+expr+exprs+field+level+new_expr+paren_or_tuple+postfix_op+postfixed+struct_literal+struct_literal_fields+unary.Lts-level as lts
-use Rattle.parser.proofs.expressions.+arguments+array+atom+chain+expr+exprs+field+level+new_expr+paren_or_tuple+postfix_op+postfixed+struct_literal+struct_literal_fields+unary.Proof.Sizes.{level-at, chain-below, unary-below}
+use Rattle.parser.proofs.Cycles.{level-at, level-below, reader-below}
 
 abbrev given : ℕ → lts.Claims
-given t = (enter-reads.Asked, enter-reads.Learnt, unary-below t, unary.Post, casts-reads.Asked, casts-reads.Learnt, chain-below t, chain.Post, leave-reads.Asked, leave-reads.Learnt)
+given t = (enter-reads.Asked, enter-reads.Learnt, reader-below 9 t, unary.Post, casts-reads.Asked, casts-reads.Learnt, level-below 3 t, chain.Post, leave-reads.Asked, leave-reads.Learnt)
 
 abbrev Inv-loop : lts.InvT-loop
 Inv-loop text tokens nodes₀ cursor n p₀ i₀ nodes p i = Climbing text tokens cursor n p₀ nodes₀ i p nodes
@@ -19,9 +19,9 @@ Inv-loop text tokens nodes₀ cursor n p₀ i₀ nodes p i = Climbing text token
 abbrev μ-loop : lts.MeasureT-loop
 μ-loop text tokens nodes₀ cursor n p₀ i₀ nodes p i = n - i
 
-pub level-spec : {M : Type 1} (t : ℕ) → lts.Closed (given t) (level-at t) level.Post M
+pub level-spec : {M : Type 1} (t : ℕ) → lts.Closed (given t) (level-at 20 t) level.Post M
 unfolding body
-level-spec t = lts.spec (given t) (level-at t) level.Post Inv-loop μ-loop
+level-spec t = lts.spec (given t) (level-at 20 t) level.Post Inv-loop μ-loop
     -- returns
     (λ c. let if1 = c .if1 .taken in idle if1)
     -- enter-requires

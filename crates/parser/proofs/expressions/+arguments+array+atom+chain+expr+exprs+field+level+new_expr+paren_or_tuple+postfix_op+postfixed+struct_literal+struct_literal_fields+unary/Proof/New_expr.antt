@@ -6,14 +6,14 @@ use Rattle.parser.proofs.expressions.expr.Reads as expr
 use Rattle.parser.proofs.expressions.new_expr.Reads as new-expr
 use Rattle.parser.proofs.types.alloc_type_expr.Reads as alloc-type-expr-reads
 use Rattle.parser.proofs.expressions.+arguments+array+atom+chain+expr+exprs+field+level+new_expr+paren_or_tuple+postfix_op+postfixed+struct_literal+struct_literal_fields+unary.Lts-new_expr as lts
-use Rattle.parser.proofs.expressions.+arguments+array+atom+chain+expr+exprs+field+level+new_expr+paren_or_tuple+postfix_op+postfixed+struct_literal+struct_literal_fields+unary.Proof.Sizes.{new-expr-at, expr-below}
+use Rattle.parser.proofs.Cycles.{reader-at, reader-below}
 
 abbrev given : ℕ → lts.Claims
-given t = (take-reads.Asked, take-reads.Learnt, alloc-type-expr-reads.Asked, alloc-type-expr-reads.Learnt, expr-below t, expr.Post, whole-reads.Asked, whole-reads.Learnt)
+given t = (take-reads.Asked, take-reads.Learnt, alloc-type-expr-reads.Asked, alloc-type-expr-reads.Learnt, reader-below 30 t, expr.Post, whole-reads.Asked, whole-reads.Learnt)
 
-pub new-expr-spec : {M : Type 1} (t : ℕ) → lts.Closed (given t) (new-expr-at t) new-expr.Post M
+pub new-expr-spec : {M : Type 1} (t : ℕ) → lts.Closed (given t) (reader-at 6 t) new-expr.Post M
 unfolding body
-new-expr-spec t = lts.spec (given t) (new-expr-at t) new-expr.Post
+new-expr-spec t = lts.spec (given t) (reader-at 6 t) new-expr.Post
     -- returns
     (λ c. let if1 = c .if1 .taken in idle if1)
     -- take-requires

@@ -8,14 +8,14 @@ use Rattle.parser.proofs.expressions.expr.Reads as expr
 use Rattle.parser.proofs.expressions.exprs.Reads as exprs
 use Rattle.parser.proofs.expressions.paren_or_tuple.Reads as paren-or-tuple
 use Rattle.parser.proofs.expressions.+arguments+array+atom+chain+expr+exprs+field+level+new_expr+paren_or_tuple+postfix_op+postfixed+struct_literal+struct_literal_fields+unary.Lts-paren_or_tuple as lts
-use Rattle.parser.proofs.expressions.+arguments+array+atom+chain+expr+exprs+field+level+new_expr+paren_or_tuple+postfix_op+postfixed+struct_literal+struct_literal_fields+unary.Proof.Sizes.{paren-or-tuple-at, expr-below, exprs-below}
+use Rattle.parser.proofs.Cycles.{reader-at, reader-below}
 
 abbrev given : ℕ → lts.Claims
-given t = (take-reads.Asked, take-reads.Learnt, peek-reads.Asked, peek-reads.Learnt, whole-reads.Asked, whole-reads.Learnt, expr-below t, expr.Post, exprs-below t, exprs.Post, skip-reads.Asked, skip-reads.Learnt)
+given t = (take-reads.Asked, take-reads.Learnt, peek-reads.Asked, peek-reads.Learnt, whole-reads.Asked, whole-reads.Learnt, reader-below 30 t, expr.Post, reader-below 3 t, exprs.Post, skip-reads.Asked, skip-reads.Learnt)
 
-pub paren-or-tuple-spec : {M : Type 1} (t : ℕ) → lts.Closed (given t) (paren-or-tuple-at t) paren-or-tuple.Post M
+pub paren-or-tuple-spec : {M : Type 1} (t : ℕ) → lts.Closed (given t) (reader-at 6 t) paren-or-tuple.Post M
 unfolding body
-paren-or-tuple-spec t = lts.spec (given t) (paren-or-tuple-at t) paren-or-tuple.Post
+paren-or-tuple-spec t = lts.spec (given t) (reader-at 6 t) paren-or-tuple.Post
     -- returns
     (λ c. let if1 = c .if1 .taken in idle if1)
     -- take-requires

@@ -11,14 +11,14 @@ use Rattle.parser.proofs.expressions.arguments.Reads as arguments
 use Rattle.parser.proofs.expressions.expr.Reads as expr
 use Rattle.parser.proofs.expressions.postfix_op.Reads as postfix-op
 use Rattle.parser.proofs.expressions.+arguments+array+atom+chain+expr+exprs+field+level+new_expr+paren_or_tuple+postfix_op+postfixed+struct_literal+struct_literal_fields+unary.Lts-postfix_op as lts
-use Rattle.parser.proofs.expressions.+arguments+array+atom+chain+expr+exprs+field+level+new_expr+paren_or_tuple+postfix_op+postfixed+struct_literal+struct_literal_fields+unary.Proof.Sizes.{postfix-op-at, arguments-below, expr-below}
+use Rattle.parser.proofs.Cycles.{reader-at, reader-below}
 
 abbrev given : ℕ → lts.Claims
-given t = (peek-reads.Asked, peek-reads.Learnt, take-reads.Asked, take-reads.Learnt, arguments-below t, arguments.Post, called-reads.Asked, called-reads.Learnt, index-reads.Asked, index-reads.Learnt, suffixed-reads.Asked, suffixed-reads.Learnt, spanned-ident-reads.Asked, spanned-ident-reads.Learnt, operands-reads.Asked, operands-reads.Learnt, expr-below t, expr.Post)
+given t = (peek-reads.Asked, peek-reads.Learnt, take-reads.Asked, take-reads.Learnt, reader-below 31 t, arguments.Post, called-reads.Asked, called-reads.Learnt, index-reads.Asked, index-reads.Learnt, suffixed-reads.Asked, suffixed-reads.Learnt, spanned-ident-reads.Asked, spanned-ident-reads.Learnt, operands-reads.Asked, operands-reads.Learnt, reader-below 30 t, expr.Post)
 
-pub postfix-op-spec : {M : Type 1} (t : ℕ) → lts.Closed (given t) (postfix-op-at t) postfix-op.Post M
+pub postfix-op-spec : {M : Type 1} (t : ℕ) → lts.Closed (given t) (reader-at 4 t) postfix-op.Post M
 unfolding body
-postfix-op-spec t = lts.spec (given t) (postfix-op-at t) postfix-op.Post
+postfix-op-spec t = lts.spec (given t) (reader-at 4 t) postfix-op.Post
     -- returns
     (λ c. let if1 = c .if1 .taken in idle if1)
     -- peek-requires

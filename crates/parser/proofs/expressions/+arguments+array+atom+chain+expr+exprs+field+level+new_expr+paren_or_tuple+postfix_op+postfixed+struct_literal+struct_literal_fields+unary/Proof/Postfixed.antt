@@ -5,10 +5,10 @@ use Rattle.parser.proofs.expressions.atom.Reads as atom
 use Rattle.parser.proofs.expressions.postfix_op.Reads as postfix-op
 use Rattle.parser.proofs.expressions.postfixed.Reads as postfixed
 use Rattle.parser.proofs.expressions.+arguments+array+atom+chain+expr+exprs+field+level+new_expr+paren_or_tuple+postfix_op+postfixed+struct_literal+struct_literal_fields+unary.Lts-postfixed as lts
-use Rattle.parser.proofs.expressions.+arguments+array+atom+chain+expr+exprs+field+level+new_expr+paren_or_tuple+postfix_op+postfixed+struct_literal+struct_literal_fields+unary.Proof.Sizes.{postfixed-at, atom-below, postfix-op-below}
+use Rattle.parser.proofs.Cycles.{reader-at, reader-below}
 
 abbrev given : ℕ → lts.Claims
-given t = (atom-below t, atom.Post, postfix-op-below t, postfix-op.Post)
+given t = (reader-below 7 t, atom.Post, reader-below 4 t, postfix-op.Post)
 
 abbrev Inv-loop : lts.InvT-loop
 Inv-loop text tokens nodes₀ p₀ nodes p = Looping text tokens (L.postfix) p₀ nodes₀ p nodes
@@ -16,9 +16,9 @@ Inv-loop text tokens nodes₀ p₀ nodes p = Looping text tokens (L.postfix) p�
 abbrev μ-loop : lts.MeasureT-loop
 μ-loop text tokens nodes₀ p₀ nodes p = size tokens p 0
 
-pub postfixed-spec : {M : Type 1} (t : ℕ) → lts.Closed (given t) (postfixed-at t) postfixed.Post M
+pub postfixed-spec : {M : Type 1} (t : ℕ) → lts.Closed (given t) (reader-at 8 t) postfixed.Post M
 unfolding body
-postfixed-spec t = lts.spec (given t) (postfixed-at t) postfixed.Post Inv-loop μ-loop
+postfixed-spec t = lts.spec (given t) (reader-at 8 t) postfixed.Post Inv-loop μ-loop
     -- returns
     (λ c. let if1 = c .if1 .taken in idle if1)
     -- atom-requires

@@ -6,14 +6,14 @@ use Rattle.parser.proofs.cursor.Cursor.whole.Reads as whole-reads
 use Rattle.parser.proofs.expressions.struct_literal.Reads as struct-literal
 use Rattle.parser.proofs.expressions.struct_literal_fields.Reads as struct-literal-fields
 use Rattle.parser.proofs.expressions.+arguments+array+atom+chain+expr+exprs+field+level+new_expr+paren_or_tuple+postfix_op+postfixed+struct_literal+struct_literal_fields+unary.Lts-struct_literal as lts
-use Rattle.parser.proofs.expressions.+arguments+array+atom+chain+expr+exprs+field+level+new_expr+paren_or_tuple+postfix_op+postfixed+struct_literal+struct_literal_fields+unary.Proof.Sizes.{struct-literal-at, struct-literal-fields-below}
+use Rattle.parser.proofs.Cycles.{reader-at, reader-below}
 
 abbrev given : ℕ → lts.Claims
-given t = (spanned-ident-reads.Asked, spanned-ident-reads.Learnt, take-reads.Asked, take-reads.Learnt, struct-literal-fields-below t, struct-literal-fields.Post, whole-reads.Asked, whole-reads.Learnt)
+given t = (spanned-ident-reads.Asked, spanned-ident-reads.Learnt, take-reads.Asked, take-reads.Learnt, reader-below 31 t, struct-literal-fields.Post, whole-reads.Asked, whole-reads.Learnt)
 
-pub struct-literal-spec : {M : Type 1} (t : ℕ) → lts.Closed (given t) (struct-literal-at t) struct-literal.Post M
+pub struct-literal-spec : {M : Type 1} (t : ℕ) → lts.Closed (given t) (reader-at 6 t) struct-literal.Post M
 unfolding body
-struct-literal-spec t = lts.spec (given t) (struct-literal-at t) struct-literal.Post
+struct-literal-spec t = lts.spec (given t) (reader-at 6 t) struct-literal.Post
     -- returns
     (λ c. let if1 = c .if1 .taken in idle if1)
     -- spanned-ident-requires

@@ -7,10 +7,10 @@ use Rattle.parser.proofs.cursor.Cursor.take.Reads as take-reads
 use Rattle.parser.proofs.expressions.field.Reads as field
 use Rattle.parser.proofs.expressions.struct_literal_fields.Reads as struct-literal-fields
 use Rattle.parser.proofs.expressions.+arguments+array+atom+chain+expr+exprs+field+level+new_expr+paren_or_tuple+postfix_op+postfixed+struct_literal+struct_literal_fields+unary.Lts-struct_literal_fields as lts
-use Rattle.parser.proofs.expressions.+arguments+array+atom+chain+expr+exprs+field+level+new_expr+paren_or_tuple+postfix_op+postfixed+struct_literal+struct_literal_fields+unary.Proof.Sizes.{struct-literal-fields-at, field-below}
+use Rattle.parser.proofs.Cycles.{reader-at, reader-below}
 
 abbrev given : ℕ → lts.Claims
-given t = (field-below t, field.Post, take-reads.Asked, take-reads.Learnt, skip-reads.Asked, skip-reads.Learnt)
+given t = (reader-below 5 t, field.Post, take-reads.Asked, take-reads.Learnt, skip-reads.Asked, skip-reads.Learnt)
 
 abbrev Inv-loop : lts.InvT-loop
 Inv-loop text tokens nodes₀ p₀ nodes p = Looping text tokens (L.another (L.field (G.rule G.expr))) p₀ nodes₀ p nodes
@@ -18,9 +18,9 @@ Inv-loop text tokens nodes₀ p₀ nodes p = Looping text tokens (L.another (L.f
 abbrev μ-loop : lts.MeasureT-loop
 μ-loop text tokens nodes₀ p₀ nodes p = size tokens p 0
 
-pub struct-literal-fields-spec : {M : Type 1} (t : ℕ) → lts.Closed (given t) (struct-literal-fields-at t) struct-literal-fields.Post M
+pub struct-literal-fields-spec : {M : Type 1} (t : ℕ) → lts.Closed (given t) (reader-at 31 t) struct-literal-fields.Post M
 unfolding body
-struct-literal-fields-spec t = lts.spec (given t) (struct-literal-fields-at t) struct-literal-fields.Post Inv-loop μ-loop
+struct-literal-fields-spec t = lts.spec (given t) (reader-at 31 t) struct-literal-fields.Post Inv-loop μ-loop
     -- returns
     (λ c. let if1 = c .if1 .taken in idle if1)
     -- field-requires

@@ -9,14 +9,14 @@ use Rattle.parser.proofs.expressions.prefixes.Reads as prefixes-reads
 use Rattle.parser.proofs.expressions.unary.Reads as unary
 use Rattle.parser.proofs.expressions.unwind.Reads as unwind-reads
 use Rattle.parser.proofs.expressions.+arguments+array+atom+chain+expr+exprs+field+level+new_expr+paren_or_tuple+postfix_op+postfixed+struct_literal+struct_literal_fields+unary.Lts-unary as lts
-use Rattle.parser.proofs.expressions.+arguments+array+atom+chain+expr+exprs+field+level+new_expr+paren_or_tuple+postfix_op+postfixed+struct_literal+struct_literal_fields+unary.Proof.Sizes.{unary-at, postfixed-below}
+use Rattle.parser.proofs.Cycles.{reader-at, reader-below}
 
 abbrev given : ℕ → lts.Claims
-given t = (enter-reads.Asked, enter-reads.Learnt, prefixes-reads.Asked, prefixes-reads.Learnt, operand-reads.Asked, operand-reads.Learnt, leave-reads.Asked, leave-reads.Learnt, postfixed-below t, postfixed.Post, unwind-reads.Asked, unwind-reads.Learnt)
+given t = (enter-reads.Asked, enter-reads.Learnt, prefixes-reads.Asked, prefixes-reads.Learnt, operand-reads.Asked, operand-reads.Learnt, leave-reads.Asked, leave-reads.Learnt, reader-below 8 t, postfixed.Post, unwind-reads.Asked, unwind-reads.Learnt)
 
-pub unary-spec : {M : Type 1} (t : ℕ) → lts.Closed (given t) (unary-at t) unary.Post M
+pub unary-spec : {M : Type 1} (t : ℕ) → lts.Closed (given t) (reader-at 9 t) unary.Post M
 unfolding body
-unary-spec t = lts.spec (given t) (unary-at t) unary.Post
+unary-spec t = lts.spec (given t) (reader-at 9 t) unary.Post
     -- returns
     (λ c. let if1 = c .if1 .taken in idle if1)
     -- enter-requires

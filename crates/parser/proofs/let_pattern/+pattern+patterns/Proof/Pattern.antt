@@ -10,14 +10,14 @@ use Rattle.parser.proofs.cursor.Cursor.take.Reads as take-reads
 use Rattle.parser.proofs.let_pattern.pattern.Reads as pattern
 use Rattle.parser.proofs.let_pattern.patterns.Reads as patterns
 use Rattle.parser.proofs.let_pattern.+pattern+patterns.Lts-pattern as lts
-use Rattle.parser.proofs.let_pattern.+pattern+patterns.Proof.Sizes.{pattern-at, pattern-below, patterns-below}
+use Rattle.parser.proofs.Cycles.{pattern-at, pattern-below}
 
 abbrev given : ℕ → lts.Claims
-given t = (enter-reads.Asked, enter-reads.Learnt, peek-reads.Asked, peek-reads.Learnt, take-reads.Asked, take-reads.Learnt, pattern-below t, pattern.Post, patterns-below t, patterns.Post, spanless-reads.Asked, spanless-reads.Learnt, leave-reads.Asked, leave-reads.Learnt, spanned-ident-reads.Asked, spanned-ident-reads.Learnt)
+given t = (enter-reads.Asked, enter-reads.Learnt, peek-reads.Asked, peek-reads.Learnt, take-reads.Asked, take-reads.Learnt, pattern-below 2 t, pattern.Post, pattern-below 3 t, patterns.Post, spanless-reads.Asked, spanless-reads.Learnt, leave-reads.Asked, leave-reads.Learnt, spanned-ident-reads.Asked, spanned-ident-reads.Learnt)
 
-pub pattern-spec : {M : Type 1} (t : ℕ) → lts.Closed (given t) (pattern-at t) pattern.Post M
+pub pattern-spec : {M : Type 1} (t : ℕ) → lts.Closed (given t) (pattern-at 2 t) pattern.Post M
 unfolding body
-pattern-spec t = lts.spec (given t) (pattern-at t) pattern.Post
+pattern-spec t = lts.spec (given t) (pattern-at 2 t) pattern.Post
     -- returns
     (λ c. let if1 = c .if1 .taken in puts (λ text. idle if1))
     -- enter-requires

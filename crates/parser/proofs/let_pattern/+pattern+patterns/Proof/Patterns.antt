@@ -6,10 +6,10 @@ use Rattle.parser.proofs.cursor.Cursor.take.Reads as take-reads
 use Rattle.parser.proofs.let_pattern.pattern.Reads as pattern
 use Rattle.parser.proofs.let_pattern.patterns.Reads as patterns
 use Rattle.parser.proofs.let_pattern.+pattern+patterns.Lts-patterns as lts
-use Rattle.parser.proofs.let_pattern.+pattern+patterns.Proof.Sizes.{patterns-at, pattern-below}
+use Rattle.parser.proofs.Cycles.{pattern-at, pattern-below}
 
 abbrev given : ℕ → lts.Claims
-given t = (take-reads.Asked, take-reads.Learnt, pattern-below t, pattern.Post)
+given t = (take-reads.Asked, take-reads.Learnt, pattern-below 2 t, pattern.Post)
 
 abbrev Inv-loop : lts.InvT-loop
 Inv-loop tokens nodes₀ p₀ nodes p = (text : List ℕ) → Looping text tokens (L.another (G.rule G.pattern)) p₀ nodes₀ p nodes
@@ -17,9 +17,9 @@ Inv-loop tokens nodes₀ p₀ nodes p = (text : List ℕ) → Looping text token
 abbrev μ-loop : lts.MeasureT-loop
 μ-loop tokens nodes₀ p₀ nodes p = size tokens p 0
 
-pub patterns-spec : {M : Type 1} (t : ℕ) → lts.Closed (given t) (patterns-at t) patterns.Post M
+pub patterns-spec : {M : Type 1} (t : ℕ) → lts.Closed (given t) (pattern-at 3 t) patterns.Post M
 unfolding body
-patterns-spec t = lts.spec (given t) (patterns-at t) patterns.Post Inv-loop μ-loop
+patterns-spec t = lts.spec (given t) (pattern-at 3 t) patterns.Post Inv-loop μ-loop
     -- loop-holds
     (λ c. λ text. rounds-begin)
     -- take-requires

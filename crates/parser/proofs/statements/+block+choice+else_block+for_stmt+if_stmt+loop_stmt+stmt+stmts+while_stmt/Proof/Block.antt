@@ -5,14 +5,14 @@ use Rattle.parser.proofs.cursor.Cursor.whole.Reads as whole-reads
 use Rattle.parser.proofs.statements.block.Reads as block
 use Rattle.parser.proofs.statements.stmts.Reads as stmts
 use Rattle.parser.proofs.statements.+block+choice+else_block+for_stmt+if_stmt+loop_stmt+stmt+stmts+while_stmt.Lts-block as lts
-use Rattle.parser.proofs.statements.+block+choice+else_block+for_stmt+if_stmt+loop_stmt+stmt+stmts+while_stmt.Proof.Sizes.{block-at, stmts-below}
+use Rattle.parser.proofs.Cycles.{reader-at, reader-below}
 
 abbrev given : ℕ → lts.Claims
-given t = (take-reads.Asked, take-reads.Learnt, stmts-below t, stmts.Post, whole-reads.Asked, whole-reads.Learnt)
+given t = (take-reads.Asked, take-reads.Learnt, reader-below 21 t, stmts.Post, whole-reads.Asked, whole-reads.Learnt)
 
-pub block-spec : {M : Type 1} (t : ℕ) → lts.Closed (given t) (block-at t) block.Post M
+pub block-spec : {M : Type 1} (t : ℕ) → lts.Closed (given t) (reader-at 18 t) block.Post M
 unfolding body
-block-spec t = lts.spec (given t) (block-at t) block.Post
+block-spec t = lts.spec (given t) (reader-at 18 t) block.Post
     -- returns
     (λ c. let if1 = c .if1 .taken in idle if1)
     -- take-requires

@@ -14,14 +14,14 @@ use Rattle.parser.proofs.statements.loop_stmt.Reads as loop-stmt
 use Rattle.parser.proofs.statements.return_stmt.Reads as return-stmt-reads
 use Rattle.parser.proofs.statements.while_stmt.Reads as while-stmt
 use Rattle.parser.proofs.statements.+block+choice+else_block+for_stmt+if_stmt+loop_stmt+stmt+stmts+while_stmt.Lts-choice as lts
-use Rattle.parser.proofs.statements.+block+choice+else_block+for_stmt+if_stmt+loop_stmt+stmt+stmts+while_stmt.Proof.Sizes.{choice-at, block-below, for-stmt-below, if-stmt-below, loop-stmt-below, while-stmt-below}
+use Rattle.parser.proofs.Cycles.{reader-at, reader-below}
 
 abbrev given : ℕ → lts.Claims
-given t = (peek-reads.Asked, peek-reads.Learnt, block-below t, block.Post, if-stmt-below t, if-stmt.Post, loop-stmt-below t, loop-stmt.Post, while-stmt-below t, while-stmt.Post, for-stmt-below t, for-stmt.Post, take-reads.Asked, take-reads.Learnt, whole-reads.Asked, whole-reads.Learnt, let-stmt-reads.Asked, let-stmt-reads.Learnt, const-def-reads.Asked, const-def-reads.Learnt, return-stmt-reads.Asked, return-stmt-reads.Learnt, assignment-or-expr-reads.Asked, assignment-or-expr-reads.Learnt)
+given t = (peek-reads.Asked, peek-reads.Learnt, reader-below 18 t, block.Post, reader-below 18 t, if-stmt.Post, reader-below 18 t, loop-stmt.Post, reader-below 18 t, while-stmt.Post, reader-below 18 t, for-stmt.Post, take-reads.Asked, take-reads.Learnt, whole-reads.Asked, whole-reads.Learnt, let-stmt-reads.Asked, let-stmt-reads.Learnt, const-def-reads.Asked, const-def-reads.Learnt, return-stmt-reads.Asked, return-stmt-reads.Learnt, assignment-or-expr-reads.Asked, assignment-or-expr-reads.Learnt)
 
-pub choice-spec : {M : Type 1} (t : ℕ) → lts.Closed (given t) (choice-at t) choice.Post M
+pub choice-spec : {M : Type 1} (t : ℕ) → lts.Closed (given t) (reader-at 19 t) choice.Post M
 unfolding body
-choice-spec t = lts.spec (given t) (choice-at t) choice.Post
+choice-spec t = lts.spec (given t) (reader-at 19 t) choice.Post
     -- returns
     (λ c. let if1 = c .if1 .taken in idle if1)
     -- peek-requires

@@ -4,14 +4,14 @@ use Rattle.parser.proofs.cursor.Cursor.take.Reads as take-reads
 use Rattle.parser.proofs.statements.else_block.Reads as else-block
 use Rattle.parser.proofs.statements.stmt.Reads as stmt
 use Rattle.parser.proofs.statements.+block+choice+else_block+for_stmt+if_stmt+loop_stmt+stmt+stmts+while_stmt.Lts-else_block as lts
-use Rattle.parser.proofs.statements.+block+choice+else_block+for_stmt+if_stmt+loop_stmt+stmt+stmts+while_stmt.Proof.Sizes.{else-block-at, stmt-below}
+use Rattle.parser.proofs.Cycles.{reader-at, reader-below}
 
 abbrev given : ℕ → lts.Claims
-given t = (take-reads.Asked, take-reads.Learnt, stmt-below t, stmt.Post)
+given t = (take-reads.Asked, take-reads.Learnt, reader-below 20 t, stmt.Post)
 
-pub else-block-spec : {M : Type 1} (t : ℕ) → lts.Closed (given t) (else-block-at t) else-block.Post M
+pub else-block-spec : {M : Type 1} (t : ℕ) → lts.Closed (given t) (reader-at 3 t) else-block.Post M
 unfolding body
-else-block-spec t = lts.spec (given t) (else-block-at t) else-block.Post
+else-block-spec t = lts.spec (given t) (reader-at 3 t) else-block.Post
     -- returns
     (λ c. let if1 = c .if1 .taken in idle if1)
     -- take-requires

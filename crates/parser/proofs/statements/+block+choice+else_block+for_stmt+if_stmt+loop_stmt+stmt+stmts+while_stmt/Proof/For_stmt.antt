@@ -8,14 +8,14 @@ use Rattle.parser.proofs.statements.for_step.Reads as for-step-reads
 use Rattle.parser.proofs.statements.for_stmt.Reads as for-stmt
 use Rattle.parser.proofs.statements.stmt.Reads as stmt
 use Rattle.parser.proofs.statements.+block+choice+else_block+for_stmt+if_stmt+loop_stmt+stmt+stmts+while_stmt.Lts-for_stmt as lts
-use Rattle.parser.proofs.statements.+block+choice+else_block+for_stmt+if_stmt+loop_stmt+stmt+stmts+while_stmt.Proof.Sizes.{for-stmt-at, stmt-below}
+use Rattle.parser.proofs.Cycles.{reader-at, reader-below}
 
 abbrev given : ℕ → lts.Claims
-given t = (take-reads.Asked, take-reads.Learnt, for-init-reads.Asked, for-init-reads.Learnt, expr-reads.Asked, expr-reads.Learnt, for-step-reads.Asked, for-step-reads.Learnt, stmt-below t, stmt.Post, whole-reads.Asked, whole-reads.Learnt)
+given t = (take-reads.Asked, take-reads.Learnt, for-init-reads.Asked, for-init-reads.Learnt, expr-reads.Asked, expr-reads.Learnt, for-step-reads.Asked, for-step-reads.Learnt, reader-below 20 t, stmt.Post, whole-reads.Asked, whole-reads.Learnt)
 
-pub for-stmt-spec : {M : Type 1} (t : ℕ) → lts.Closed (given t) (for-stmt-at t) for-stmt.Post M
+pub for-stmt-spec : {M : Type 1} (t : ℕ) → lts.Closed (given t) (reader-at 18 t) for-stmt.Post M
 unfolding body
-for-stmt-spec t = lts.spec (given t) (for-stmt-at t) for-stmt.Post
+for-stmt-spec t = lts.spec (given t) (reader-at 18 t) for-stmt.Post
     -- returns
     (λ c. let if1 = c .if1 .taken in idle if1)
     -- take-requires

@@ -7,14 +7,14 @@ use Rattle.parser.proofs.statements.else_block.Reads as else-block
 use Rattle.parser.proofs.statements.if_stmt.Reads as if-stmt
 use Rattle.parser.proofs.statements.stmt.Reads as stmt
 use Rattle.parser.proofs.statements.+block+choice+else_block+for_stmt+if_stmt+loop_stmt+stmt+stmts+while_stmt.Lts-if_stmt as lts
-use Rattle.parser.proofs.statements.+block+choice+else_block+for_stmt+if_stmt+loop_stmt+stmt+stmts+while_stmt.Proof.Sizes.{if-stmt-at, else-block-below, stmt-below}
+use Rattle.parser.proofs.Cycles.{reader-at, reader-below}
 
 abbrev given : ℕ → lts.Claims
-given t = (take-reads.Asked, take-reads.Learnt, condition-reads.Asked, condition-reads.Learnt, stmt-below t, stmt.Post, else-block-below t, else-block.Post, whole-reads.Asked, whole-reads.Learnt)
+given t = (take-reads.Asked, take-reads.Learnt, condition-reads.Asked, condition-reads.Learnt, reader-below 20 t, stmt.Post, reader-below 3 t, else-block.Post, whole-reads.Asked, whole-reads.Learnt)
 
-pub if-stmt-spec : {M : Type 1} (t : ℕ) → lts.Closed (given t) (if-stmt-at t) if-stmt.Post M
+pub if-stmt-spec : {M : Type 1} (t : ℕ) → lts.Closed (given t) (reader-at 18 t) if-stmt.Post M
 unfolding body
-if-stmt-spec t = lts.spec (given t) (if-stmt-at t) if-stmt.Post
+if-stmt-spec t = lts.spec (given t) (reader-at 18 t) if-stmt.Post
     -- returns
     (λ c. let if1 = c .if1 .taken in idle if1)
     -- take-requires

@@ -5,14 +5,14 @@ use Rattle.parser.proofs.cursor.Cursor.whole.Reads as whole-reads
 use Rattle.parser.proofs.statements.loop_stmt.Reads as loop-stmt
 use Rattle.parser.proofs.statements.stmt.Reads as stmt
 use Rattle.parser.proofs.statements.+block+choice+else_block+for_stmt+if_stmt+loop_stmt+stmt+stmts+while_stmt.Lts-loop_stmt as lts
-use Rattle.parser.proofs.statements.+block+choice+else_block+for_stmt+if_stmt+loop_stmt+stmt+stmts+while_stmt.Proof.Sizes.{loop-stmt-at, stmt-below}
+use Rattle.parser.proofs.Cycles.{reader-at, reader-below}
 
 abbrev given : ℕ → lts.Claims
-given t = (take-reads.Asked, take-reads.Learnt, stmt-below t, stmt.Post, whole-reads.Asked, whole-reads.Learnt)
+given t = (take-reads.Asked, take-reads.Learnt, reader-below 20 t, stmt.Post, whole-reads.Asked, whole-reads.Learnt)
 
-pub loop-stmt-spec : {M : Type 1} (t : ℕ) → lts.Closed (given t) (loop-stmt-at t) loop-stmt.Post M
+pub loop-stmt-spec : {M : Type 1} (t : ℕ) → lts.Closed (given t) (reader-at 18 t) loop-stmt.Post M
 unfolding body
-loop-stmt-spec t = lts.spec (given t) (loop-stmt-at t) loop-stmt.Post
+loop-stmt-spec t = lts.spec (given t) (reader-at 18 t) loop-stmt.Post
     -- returns
     (λ c. let if1 = c .if1 .taken in idle if1)
     -- take-requires

@@ -6,14 +6,14 @@ use Rattle.parser.proofs.cursor.Cursor.leave.Reads as leave-reads
 use Rattle.parser.proofs.statements.choice.Reads as choice
 use Rattle.parser.proofs.statements.stmt.Reads as stmt
 use Rattle.parser.proofs.statements.+block+choice+else_block+for_stmt+if_stmt+loop_stmt+stmt+stmts+while_stmt.Lts-stmt as lts
-use Rattle.parser.proofs.statements.+block+choice+else_block+for_stmt+if_stmt+loop_stmt+stmt+stmts+while_stmt.Proof.Sizes.{stmt-at, choice-below}
+use Rattle.parser.proofs.Cycles.{reader-at, reader-below}
 
 abbrev given : ℕ → lts.Claims
-given t = (enter-reads.Asked, enter-reads.Learnt, choice-below t, choice.Post, leave-reads.Asked, leave-reads.Learnt)
+given t = (enter-reads.Asked, enter-reads.Learnt, reader-below 19 t, choice.Post, leave-reads.Asked, leave-reads.Learnt)
 
-pub stmt-spec : {M : Type 1} (t : ℕ) → lts.Closed (given t) (stmt-at t) stmt.Post M
+pub stmt-spec : {M : Type 1} (t : ℕ) → lts.Closed (given t) (reader-at 20 t) stmt.Post M
 unfolding body
-stmt-spec t = lts.spec (given t) (stmt-at t) stmt.Post
+stmt-spec t = lts.spec (given t) (reader-at 20 t) stmt.Post
     -- returns
     (λ c. let if1 = c .if1 .taken in idle if1)
     -- enter-requires

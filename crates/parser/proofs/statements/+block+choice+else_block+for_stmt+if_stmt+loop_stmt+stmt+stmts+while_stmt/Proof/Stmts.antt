@@ -4,10 +4,10 @@ use Rattle.grammar.specs.Derive as G
 use Rattle.parser.proofs.statements.stmt.Reads as stmt
 use Rattle.parser.proofs.statements.stmts.Reads as stmts
 use Rattle.parser.proofs.statements.+block+choice+else_block+for_stmt+if_stmt+loop_stmt+stmt+stmts+while_stmt.Lts-stmts as lts
-use Rattle.parser.proofs.statements.+block+choice+else_block+for_stmt+if_stmt+loop_stmt+stmt+stmts+while_stmt.Proof.Sizes.{stmts-at, stmt-below}
+use Rattle.parser.proofs.Cycles.{reader-at, reader-below}
 
 abbrev given : ℕ → lts.Claims
-given t = (stmt-below t, stmt.Post)
+given t = (reader-below 20 t, stmt.Post)
 
 abbrev Inv-loop : lts.InvT-loop
 Inv-loop text tokens nodes₀ p₀ nodes p = Looping text tokens (G.rule G.stmt) p₀ nodes₀ p nodes
@@ -15,9 +15,9 @@ Inv-loop text tokens nodes₀ p₀ nodes p = Looping text tokens (G.rule G.stmt)
 abbrev μ-loop : lts.MeasureT-loop
 μ-loop text tokens nodes₀ p₀ nodes p = size tokens p 0
 
-pub stmts-spec : {M : Type 1} (t : ℕ) → lts.Closed (given t) (stmts-at t) stmts.Post M
+pub stmts-spec : {M : Type 1} (t : ℕ) → lts.Closed (given t) (reader-at 21 t) stmts.Post M
 unfolding body
-stmts-spec t = lts.spec (given t) (stmts-at t) stmts.Post Inv-loop μ-loop
+stmts-spec t = lts.spec (given t) (reader-at 21 t) stmts.Post Inv-loop μ-loop
     -- loop-holds
     (λ c. rounds-begin)
     -- stmt-requires

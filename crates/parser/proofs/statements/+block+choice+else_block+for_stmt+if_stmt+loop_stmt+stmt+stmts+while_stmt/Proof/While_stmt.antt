@@ -6,14 +6,14 @@ use Rattle.parser.proofs.statements.condition.Reads as condition-reads
 use Rattle.parser.proofs.statements.stmt.Reads as stmt
 use Rattle.parser.proofs.statements.while_stmt.Reads as while-stmt
 use Rattle.parser.proofs.statements.+block+choice+else_block+for_stmt+if_stmt+loop_stmt+stmt+stmts+while_stmt.Lts-while_stmt as lts
-use Rattle.parser.proofs.statements.+block+choice+else_block+for_stmt+if_stmt+loop_stmt+stmt+stmts+while_stmt.Proof.Sizes.{while-stmt-at, stmt-below}
+use Rattle.parser.proofs.Cycles.{reader-at, reader-below}
 
 abbrev given : ℕ → lts.Claims
-given t = (take-reads.Asked, take-reads.Learnt, condition-reads.Asked, condition-reads.Learnt, stmt-below t, stmt.Post, whole-reads.Asked, whole-reads.Learnt)
+given t = (take-reads.Asked, take-reads.Learnt, condition-reads.Asked, condition-reads.Learnt, reader-below 20 t, stmt.Post, whole-reads.Asked, whole-reads.Learnt)
 
-pub while-stmt-spec : {M : Type 1} (t : ℕ) → lts.Closed (given t) (while-stmt-at t) while-stmt.Post M
+pub while-stmt-spec : {M : Type 1} (t : ℕ) → lts.Closed (given t) (reader-at 18 t) while-stmt.Post M
 unfolding body
-while-stmt-spec t = lts.spec (given t) (while-stmt-at t) while-stmt.Post
+while-stmt-spec t = lts.spec (given t) (reader-at 18 t) while-stmt.Post
     -- returns
     (λ c. let if1 = c .if1 .taken in idle if1)
     -- take-requires

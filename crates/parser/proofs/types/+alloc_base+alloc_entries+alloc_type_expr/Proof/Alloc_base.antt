@@ -7,14 +7,14 @@ use Rattle.parser.proofs.types.alloc_base.Reads as alloc-base
 use Rattle.parser.proofs.types.alloc_entries.Reads as alloc-entries
 use Rattle.parser.proofs.types.tuple_end.Reads as tuple-end-reads
 use Rattle.parser.proofs.types.+alloc_base+alloc_entries+alloc_type_expr.Lts-alloc_base as lts
-use Rattle.parser.proofs.types.+alloc_base+alloc_entries+alloc_type_expr.Proof.Sizes.{alloc-base-at, alloc-entries-below}
+use Rattle.parser.proofs.Cycles.{reader-at, reader-below}
 
 abbrev given : ℕ → lts.Claims
-given t = (peek-reads.Asked, peek-reads.Learnt, named-reads.Asked, named-reads.Learnt, take-reads.Asked, take-reads.Learnt, alloc-entries-below t, alloc-entries.Post, tuple-end-reads.Asked, tuple-end-reads.Learnt)
+given t = (peek-reads.Asked, peek-reads.Learnt, named-reads.Asked, named-reads.Learnt, take-reads.Asked, take-reads.Learnt, reader-below 6 t, alloc-entries.Post, tuple-end-reads.Asked, tuple-end-reads.Learnt)
 
-pub alloc-base-spec : {M : Type 1} (t : ℕ) → lts.Closed (given t) (alloc-base-at t) alloc-base.Post M
+pub alloc-base-spec : {M : Type 1} (t : ℕ) → lts.Closed (given t) (reader-at 3 t) alloc-base.Post M
 unfolding body
-alloc-base-spec t = lts.spec (given t) (alloc-base-at t) alloc-base.Post
+alloc-base-spec t = lts.spec (given t) (reader-at 3 t) alloc-base.Post
     -- returns
     (λ c. let if1 = c .if1 .taken in idle if1)
     -- peek-requires

@@ -6,10 +6,10 @@ use Rattle.parser.proofs.cursor.Cursor.take.Reads as take-reads
 use Rattle.parser.proofs.types.alloc_entries.Reads as alloc-entries
 use Rattle.parser.proofs.types.alloc_type_expr.Reads as alloc-type-expr
 use Rattle.parser.proofs.types.+alloc_base+alloc_entries+alloc_type_expr.Lts-alloc_entries as lts
-use Rattle.parser.proofs.types.+alloc_base+alloc_entries+alloc_type_expr.Proof.Sizes.{alloc-entries-at, alloc-type-expr-below}
+use Rattle.parser.proofs.Cycles.{reader-at, reader-below}
 
 abbrev given : ℕ → lts.Claims
-given t = (alloc-type-expr-below t, alloc-type-expr.Post, take-reads.Asked, take-reads.Learnt)
+given t = (reader-below 4 t, alloc-type-expr.Post, take-reads.Asked, take-reads.Learnt)
 
 abbrev Inv-loop : lts.InvT-loop
 Inv-loop text tokens nodes₀ p₀ nodes p = Looping text tokens (L.another (G.rule G.alloc)) p₀ nodes₀ p nodes
@@ -17,9 +17,9 @@ Inv-loop text tokens nodes₀ p₀ nodes p = Looping text tokens (L.another (G.r
 abbrev μ-loop : lts.MeasureT-loop
 μ-loop text tokens nodes₀ p₀ nodes p = size tokens p 0
 
-pub alloc-entries-spec : {M : Type 1} (t : ℕ) → lts.Closed (given t) (alloc-entries-at t) alloc-entries.Post M
+pub alloc-entries-spec : {M : Type 1} (t : ℕ) → lts.Closed (given t) (reader-at 6 t) alloc-entries.Post M
 unfolding body
-alloc-entries-spec t = lts.spec (given t) (alloc-entries-at t) alloc-entries.Post Inv-loop μ-loop
+alloc-entries-spec t = lts.spec (given t) (reader-at 6 t) alloc-entries.Post Inv-loop μ-loop
     -- returns
     (λ c. let if1 = c .if1 .taken in idle if1)
     -- alloc-type-expr-requires

@@ -7,14 +7,14 @@ use Rattle.parser.proofs.types.alloc_base.Reads as alloc-base
 use Rattle.parser.proofs.types.alloc_type_expr.Reads as alloc-type-expr
 use Rattle.parser.proofs.types.pointers.Reads as pointers-reads
 use Rattle.parser.proofs.types.+alloc_base+alloc_entries+alloc_type_expr.Lts-alloc_type_expr as lts
-use Rattle.parser.proofs.types.+alloc_base+alloc_entries+alloc_type_expr.Proof.Sizes.{alloc-type-expr-at, alloc-base-below}
+use Rattle.parser.proofs.Cycles.{reader-at, reader-below}
 
 abbrev given : ℕ → lts.Claims
-given t = (enter-reads.Asked, enter-reads.Learnt, alloc-base-below t, alloc-base.Post, pointers-reads.Asked, pointers-reads.Learnt, leave-reads.Asked, leave-reads.Learnt)
+given t = (enter-reads.Asked, enter-reads.Learnt, reader-below 3 t, alloc-base.Post, pointers-reads.Asked, pointers-reads.Learnt, leave-reads.Asked, leave-reads.Learnt)
 
-pub alloc-type-expr-spec : {M : Type 1} (t : ℕ) → lts.Closed (given t) (alloc-type-expr-at t) alloc-type-expr.Post M
+pub alloc-type-expr-spec : {M : Type 1} (t : ℕ) → lts.Closed (given t) (reader-at 4 t) alloc-type-expr.Post M
 unfolding body
-alloc-type-expr-spec t = lts.spec (given t) (alloc-type-expr-at t) alloc-type-expr.Post
+alloc-type-expr-spec t = lts.spec (given t) (reader-at 4 t) alloc-type-expr.Post
     -- returns
     (λ c. let if1 = c .if1 .taken in idle if1)
     -- enter-requires

@@ -6,14 +6,14 @@ use Rattle.parser.proofs.types.array_size.Reads as array-size-reads
 use Rattle.parser.proofs.types.array_type.Reads as array-type
 use Rattle.parser.proofs.types.type_expr.Reads as type-expr
 use Rattle.parser.proofs.types.+array_type+base_type+type_entries+type_expr.Lts-array_type as lts
-use Rattle.parser.proofs.types.+array_type+base_type+type_entries+type_expr.Proof.Sizes.{array-type-at, type-expr-below}
+use Rattle.parser.proofs.Cycles.{reader-at, reader-below}
 
 abbrev given : ℕ → lts.Claims
-given t = (take-reads.Asked, take-reads.Learnt, type-expr-below t, type-expr.Post, array-size-reads.Asked, array-size-reads.Learnt, whole-reads.Asked, whole-reads.Learnt)
+given t = (take-reads.Asked, take-reads.Learnt, reader-below 4 t, type-expr.Post, array-size-reads.Asked, array-size-reads.Learnt, whole-reads.Asked, whole-reads.Learnt)
 
-pub array-type-spec : {M : Type 1} (t : ℕ) → lts.Closed (given t) (array-type-at t) array-type.Post M
+pub array-type-spec : {M : Type 1} (t : ℕ) → lts.Closed (given t) (reader-at 2 t) array-type.Post M
 unfolding body
-array-type-spec t = lts.spec (given t) (array-type-at t) array-type.Post
+array-type-spec t = lts.spec (given t) (reader-at 2 t) array-type.Post
     -- returns
     (λ c. let if1 = c .if1 .taken in idle if1)
     -- take-requires

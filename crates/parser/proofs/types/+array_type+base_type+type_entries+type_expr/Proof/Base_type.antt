@@ -8,14 +8,14 @@ use Rattle.parser.proofs.types.base_type.Reads as base-type
 use Rattle.parser.proofs.types.tuple_end.Reads as tuple-end-reads
 use Rattle.parser.proofs.types.type_entries.Reads as type-entries
 use Rattle.parser.proofs.types.+array_type+base_type+type_entries+type_expr.Lts-base_type as lts
-use Rattle.parser.proofs.types.+array_type+base_type+type_entries+type_expr.Proof.Sizes.{base-type-at, array-type-below, type-entries-below}
+use Rattle.parser.proofs.Cycles.{reader-at, reader-below}
 
 abbrev given : ℕ → lts.Claims
-given t = (peek-reads.Asked, peek-reads.Learnt, named-reads.Asked, named-reads.Learnt, array-type-below t, array-type.Post, take-reads.Asked, take-reads.Learnt, type-entries-below t, type-entries.Post, tuple-end-reads.Asked, tuple-end-reads.Learnt)
+given t = (peek-reads.Asked, peek-reads.Learnt, named-reads.Asked, named-reads.Learnt, reader-below 2 t, array-type.Post, take-reads.Asked, take-reads.Learnt, reader-below 6 t, type-entries.Post, tuple-end-reads.Asked, tuple-end-reads.Learnt)
 
-pub base-type-spec : {M : Type 1} (t : ℕ) → lts.Closed (given t) (base-type-at t) base-type.Post M
+pub base-type-spec : {M : Type 1} (t : ℕ) → lts.Closed (given t) (reader-at 3 t) base-type.Post M
 unfolding body
-base-type-spec t = lts.spec (given t) (base-type-at t) base-type.Post
+base-type-spec t = lts.spec (given t) (reader-at 3 t) base-type.Post
     -- returns
     (λ c. let if1 = c .if1 .taken in idle if1)
     -- peek-requires

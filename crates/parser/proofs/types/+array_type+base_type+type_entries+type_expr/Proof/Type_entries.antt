@@ -6,10 +6,10 @@ use Rattle.parser.proofs.cursor.Cursor.take.Reads as take-reads
 use Rattle.parser.proofs.types.type_entries.Reads as type-entries
 use Rattle.parser.proofs.types.type_expr.Reads as type-expr
 use Rattle.parser.proofs.types.+array_type+base_type+type_entries+type_expr.Lts-type_entries as lts
-use Rattle.parser.proofs.types.+array_type+base_type+type_entries+type_expr.Proof.Sizes.{type-entries-at, type-expr-below}
+use Rattle.parser.proofs.Cycles.{reader-at, reader-below}
 
 abbrev given : ℕ → lts.Claims
-given t = (type-expr-below t, type-expr.Post, take-reads.Asked, take-reads.Learnt)
+given t = (reader-below 4 t, type-expr.Post, take-reads.Asked, take-reads.Learnt)
 
 abbrev Inv-loop : lts.InvT-loop
 Inv-loop text tokens nodes₀ p₀ nodes p = Looping text tokens (L.another (G.rule G.type)) p₀ nodes₀ p nodes
@@ -17,9 +17,9 @@ Inv-loop text tokens nodes₀ p₀ nodes p = Looping text tokens (L.another (G.r
 abbrev μ-loop : lts.MeasureT-loop
 μ-loop text tokens nodes₀ p₀ nodes p = size tokens p 0
 
-pub type-entries-spec : {M : Type 1} (t : ℕ) → lts.Closed (given t) (type-entries-at t) type-entries.Post M
+pub type-entries-spec : {M : Type 1} (t : ℕ) → lts.Closed (given t) (reader-at 6 t) type-entries.Post M
 unfolding body
-type-entries-spec t = lts.spec (given t) (type-entries-at t) type-entries.Post Inv-loop μ-loop
+type-entries-spec t = lts.spec (given t) (reader-at 6 t) type-entries.Post Inv-loop μ-loop
     -- returns
     (λ c. let if1 = c .if1 .taken in idle if1)
     -- type-expr-requires

@@ -7,14 +7,14 @@ use Rattle.parser.proofs.types.base_type.Reads as base-type
 use Rattle.parser.proofs.types.pointers.Reads as pointers-reads
 use Rattle.parser.proofs.types.type_expr.Reads as type-expr
 use Rattle.parser.proofs.types.+array_type+base_type+type_entries+type_expr.Lts-type_expr as lts
-use Rattle.parser.proofs.types.+array_type+base_type+type_entries+type_expr.Proof.Sizes.{type-expr-at, base-type-below}
+use Rattle.parser.proofs.Cycles.{reader-at, reader-below}
 
 abbrev given : ℕ → lts.Claims
-given t = (enter-reads.Asked, enter-reads.Learnt, base-type-below t, base-type.Post, pointers-reads.Asked, pointers-reads.Learnt, leave-reads.Asked, leave-reads.Learnt)
+given t = (enter-reads.Asked, enter-reads.Learnt, reader-below 3 t, base-type.Post, pointers-reads.Asked, pointers-reads.Learnt, leave-reads.Asked, leave-reads.Learnt)
 
-pub type-expr-spec : {M : Type 1} (t : ℕ) → lts.Closed (given t) (type-expr-at t) type-expr.Post M
+pub type-expr-spec : {M : Type 1} (t : ℕ) → lts.Closed (given t) (reader-at 4 t) type-expr.Post M
 unfolding body
-type-expr-spec t = lts.spec (given t) (type-expr-at t) type-expr.Post
+type-expr-spec t = lts.spec (given t) (reader-at 4 t) type-expr.Post
     -- returns
     (λ c. let if1 = c .if1 .taken in idle if1)
     -- enter-requires
