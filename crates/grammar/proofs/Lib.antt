@@ -12,6 +12,7 @@ pub mod Forest
 pub mod Levels
 pub mod Spans
 pub mod Fits
+pub mod Few
 pub mod Eval
 pub mod Verdict
 pub mod Edge

@@ -12,26 +12,15 @@ use Rattle.grammar.specs.Derive.{Token, Node, Input, token, R, Act, skip
 use Rattle.grammar.specs.Derive.{G, step, _&_, _or_, many, both, rule, S, Out, next, act, yields}
 use Rattle.grammar.specs.Derive.{Derives, stepped, and-not, and-then, or-first, or-else, no-more, one-more, agreed, ruled}
 use Rattle.grammar.specs.Grammar.{body, Tree}
+use Rattle.grammar.specs.Suffix.{unknownSuffix, keep, unknownNumerals}
 use Rattle.patterns.proofs.Tests.{and-l, and-r}
 use Rattle.grammar.proofs.Bodies.{every}
 use Rattle.grammar.proofs.On.{On, off, on, on-of, on-if, on-agree, on-leave}
 
--- a numeral with a suffix that is neither felt nor u32
-abbrev pub unknownSuffix : Token → Bool
-unknownSuffix t = eqb (t .kind) 1 && eqb (t .suffix) 3
-
-abbrev keep : Bool → Token → List Token
-keep true t = t ∷ []
-keep false t = []
-
-abbrev pub unknownNumerals : List Token → List Token
-unknownNumerals [] = []
-unknownNumerals (t ∷ ts) = keep (unknownSuffix t) t ++ unknownNumerals ts
-
 abbrev none-such : Token
 none-such = record { kind = 0; start = 0; end = 0; value = 0; suffix = 0 }
 
-one-later : (ts : List Token) (n : ℕ) → unknownNumerals (L.take (suc n) ts) ≡ unknownNumerals (L.take n ts) ++ keep (unknownSuffix (getD ts n none-such)) (getD ts n none-such)
+pub one-later : (ts : List Token) (n : ℕ) → unknownNumerals (L.take (suc n) ts) ≡ unknownNumerals (L.take n ts) ++ keep (unknownSuffix (getD ts n none-such)) (getD ts n none-such)
 one-later [] zero = refl
 one-later [] (suc n) = refl
 one-later (t ∷ ts) zero = append-nil (keep (unknownSuffix t) t)

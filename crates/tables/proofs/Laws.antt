@@ -2,7 +2,7 @@
 use mathlib.Core.Path.{_≡_, refl, sym, ap, ap₂, subst, _∙_}
 use mathlib.Core.List.{List, [], _∷_, _++_, append-assoc, append-nil}
 use Prim.Native.Nat.{ℕ, zero, suc, _+_, _-_, _*_, _/_, _%_, _^_, _≤_, _<_, min, zero-le}
-use native.Mathlib.Nat.{zero-mul, suc-mul, add-comm, add-zero, add-suc, suc-add, sub-zero, div-zero, mod-add-div, div-div-eq-div-mul, mul-le-mul-right, le-div-iff-mul-le}
+use native.Mathlib.Nat.{zero-mul, suc-mul, add-comm, add-zero, add-suc, suc-add, sub-zero, div-zero, mod-add-div, div-div-eq-div-mul, mul-le-mul-right, le-div-iff-mul-le, le-refl}
 use native.Mathlib.Numerals.{add-one, towards-suc}
 use native.Mathlib.Omega.{arith}
 use native.Mathlib.Decide.{decLt}
@@ -182,6 +182,38 @@ module _ {A : Type 0} (f : A → List ℕ) (w : ℕ) (some-size : 0 < w) (each :
       ap (λ (k : ℕ). k * w) (omega (arith, length-take (length t / w) l)) ∙ sym (joined-length f w each (take (length t / w) l)) in
       rw (laid-length l, n, take-at b (drop (length b) t) (length b) refl) (sym (filled-is (length t) b (in-room f w some-size each (length t) l)))
 
+-- a table without entries
+pub table-none : {A : Type 0} (f : A → List ℕ) (w n : ℕ) → table w f n [] ≡ zeros n
+unfolding table filled joined
+table-none f w n = ap (λ (l : List _). take n (joined f l ++ zeros n)) (take-nil (n / w)) ∙ take-all n (zeros n) (omega (arith, length-replicate {A = ℕ} n 0))
+
+-- laid over zeros
+drop-zeros : (k n : ℕ) → k ≤ n → drop k (zeros n) ≡ zeros (n - k)
+drop-zeros zero n h = ap zeros (sym (sub-zero n))
+drop-zeros (suc k) zero h = absurd (omega arith)
+drop-zeros (suc k) (suc n) h = let e : n - k ≡ suc n - suc k = omega arith in drop-zeros k n (omega arith) ∙ ap zeros e
+
+module _ {A : Type 0} (f : A → List ℕ) (w : ℕ) (some-size : 0 < w) (each : (a : A) → length (f a) ≡ w) (n : ℕ) (l : List A) where
+  pub laid-zeros : laid w f (zeros n) l ≡ table w f n l
+  unfolding laid table
+  laid-zeros =
+      let b = joined f (take (n / w) l) in
+      rw (length-replicate {A = ℕ} n 0) (ap (λ (z : List ℕ). b ++ z) (drop-zeros (length b) n (in-room f w some-size each n l)) ∙ sym (filled-is n b (in-room f w some-size each n l)))
+
+  -- the front of a table with room for all is the table that has just their size
+  pub table-front : length l ≤ n / w → take (length l * w) (table w f n l) ≡ table w f (length l * w) l
+  unfolding table
+  table-front h =
+      let b = joined f l in
+      let k : length b ≡ length l * w = joined-length f w each l in
+      let r : length b ≤ n = subst (λ (m : List A). length (joined f m) ≤ n) (take-all (n / w) l h) (in-room f w some-size each n l) in
+      let q : length l ≤ length l * w / w = le-div-iff-mul-le some-size .1 (le-refl _) in
+      let z : length l * w - length b ≡ 0 = omega arith in
+      ap (λ (m : List A). take (length l * w) (filled n (joined f m))) (take-all (n / w) l h)
+      ∙ ap (take (length l * w)) (filled-is n b r)
+      ∙ take-at b (zeros (n - length b)) (length l * w) k
+      ∙ sym (ap (λ (m : List A). filled (length l * w) (joined f m)) (take-all (length l * w / w) l q) ∙ filled-is (length l * w) b (omega arith) ∙ ap (λ (j : ℕ). b ++ zeros j) z ∙ append-nil b)
+
 -- ---- entries' sizes, and tables that are all zero
 pub token-size : (t : Token) → length (encodeToken t) ≡ 16
 unfolding encodeToken le16 le64
@@ -355,7 +387,11 @@ token-none b h = rw (h 0 1 (omega arith), h 1 1 (omega arith), h 2 2 (omega arit
 pub token-past : (n : ℕ) (ts : List Token) (i : ℕ) → length ts ≤ i → tokenAt (tokenTable n ts) i ≡ zero-token
 token-past n ts i h = token-none (entryAt 16 (tokenTable n ts) i) (number-past encodeToken 16 (omega arith) token-size n ts i h)
 
-pub node-past : (n : ℕ) (ns : List Node) (i : ℕ) → length ns ≤ i → nodeAt (nodeTable n ns) i ≡ record { kind = 0; start = 0; end = 0; children = 0; value = 0 }
+-- a node of kind 0, likewise
+abbrev pub zero-node : Node
+zero-node = record { kind = 0; start = 0; end = 0; children = 0; value = 0 }
+
+pub node-past : (n : ℕ) (ns : List Node) (i : ℕ) → length ns ≤ i → nodeAt (nodeTable n ns) i ≡ zero-node
 node-past n ns i h =
     let past = number-past encodeNode 16 (omega arith) node-size n ns i h in
     rw (past 0 1 (omega arith), past 2 2 (omega arith), past 4 2 (omega arith), past 6 2 (omega arith), past 8 8 (omega arith))
@@ -367,12 +403,12 @@ diagnostic-past n ds i h =
 
 -- ---- all tokens of a table
 module _ {A : Type 0} where
-  tabulate-length : (n : ℕ) (f : ℕ → A) → length (tabulate n f) ≡ n
+  pub tabulate-length : (n : ℕ) (f : ℕ → A) → length (tabulate n f) ≡ n
   unfolding tabulate
   tabulate-length zero f = refl
   tabulate-length (suc n) f = ap suc (tabulate-length n (λ i. f (suc i)))
 
-  tabulate-at : (n : ℕ) (f : ℕ → A) (i : ℕ) (d : A) → i < n → getD (tabulate n f) i d ≡ f i
+  pub tabulate-at : (n : ℕ) (f : ℕ → A) (i : ℕ) (d : A) → i < n → getD (tabulate n f) i d ≡ f i
   unfolding tabulate
   tabulate-at zero f i d h = absurd (omega arith)
   tabulate-at (suc n) f zero d h = refl
@@ -398,3 +434,10 @@ tokens-of-table ts n e fits =
     tokens-length (tokenTable n ts) ∙ ap (λ (m : ℕ). m / 16) (table-length encodeToken 16 (omega arith) token-size n ts) ∙ e in
     ext-getD zero-token (tokensOf (tokenTable n ts)) ts l
     (λ i h. tokens-at (tokenTable n ts) i ∙ token-read n ts i zero-token (omega arith) (omega arith) (fits i (omega arith)))
+
+pub nodes-of-table : (ns : List Node) (n : ℕ) → length ns ≤ n / 16 → ((i : ℕ) → i < length ns → NodeFits (getD ns i zero-node)) → tabulate (length ns) (λ i. nodeAt (nodeTable n ns) i) ≡ ns
+nodes-of-table ns n h fits =
+    let f : ℕ → Node = λ i. nodeAt (nodeTable n ns) i in
+    let l = tabulate-length (length ns) f in
+    ext-getD zero-node (tabulate (length ns) f) ns l
+    (λ i k. tabulate-at (length ns) f i zero-node (omega arith) ∙ node-read n ns i zero-node (omega arith) (omega arith) (fits i (omega arith)))

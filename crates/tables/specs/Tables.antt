@@ -140,3 +140,13 @@ tabulate (suc n) f = f 0 ∷ tabulate n (λ i. f (suc i))
 unfoldable pub tokensOf : List ℕ → List Token
 unfolding tabulate
 tokensOf t = tabulate (length t / 16) (λ i. tokenAt t i)
+
+-- all nodes of a table
+unfoldable pub nodesOf : List ℕ → List Node
+unfolding tabulate
+nodesOf t = tabulate (length t / 16) (λ i. nodeAt t i)
+
+-- all diagnostics of a table
+unfoldable pub diagnosticsOf : List ℕ → List Diagnostic
+unfolding tabulate
+diagnosticsOf t = tabulate (length t / 8) (λ i. diagnosticAt t i)
