@@ -104,7 +104,7 @@ take-zeros zero n h = refl
 take-zeros (suc k) zero h = absurd (omega arith)
 take-zeros (suc k) (suc n) h = ap (λ (l : List ℕ). 0 ∷ l) (take-zeros k n (omega arith))
 
-filled-is : (n : ℕ) (b : List ℕ) → length b ≤ n → filled n b ≡ b ++ zeros (n - length b)
+pub filled-is : (n : ℕ) (b : List ℕ) → length b ≤ n → filled n b ≡ b ++ zeros (n - length b)
 unfolding filled
 filled-is n b h =
     let e : n ≡ length b + (n - length b) = omega arith in

@@ -1,0 +1,117 @@
+-- From the tokens on: what `parse` answers, the literals with an unknown suffix and the room make the outcome. Assumes nothing.
+use mathlib.Core.Path.{_≡_, refl, sym, ap, ap₂, subst, _∙_}
+use mathlib.Core.List.{List, [], _∷_, map}
+use Prim.Native.Nat.{ℕ, _/_, _≤_, _<_, min}
+use native.Mathlib.Omega.{arith}
+use lib.ListN.{length, replicate}
+use Rattle.tables.specs.Tables.{Token, Node, encodeDiagnostic, tokensOf as tokensIn, cleared, laid, table}
+use Rattle.tables.proofs.Laws.{diagnostic-size, laid-none, table-none, cleared-all, tokens-length}
+use Rattle.grammar.specs.Grammar.{Tree, Deep}
+use Rattle.grammar.specs.Suffix.{unknownNumerals}
+use Rattle.grammar.proofs.Suffix.{unknown-suffixes}
+use Rattle.grammar.proofs.Few.{few}
+use Rattle.parser.specs.Parse.{Verdict, tree, syntax, deep, VerdictIs, is-deep, is-tree, is-syntax, MAX64, entryOf, answerOf, nodesOf, ParsedIs}
+use Rattle.parser.specs.declared.Parsed.{Parsed}
+use Rattle.parser.specs.declared.Parsed.the-variants as Parsed
+use Rattle.cairo_m.specs.declared.Reading.{Reading}
+use Rattle.cairo_m.specs.declared.Reading.the-variants as Reading
+use Rattle.cairo_m.specs.Reading.{input, nest, suffix, node-room, accepted, is-nest, is-suffix, is-node-room, is-accepted, suffixError}
+use Rattle.cairo_m.specs.Reading as R
+use Rattle.cairo_m.specs.Suffixes.{Unknown, TokensRead}
+
+-- what `parse` answered, read back
+data Seen (text w : List ℕ) (m : ℕ) (U : List ℕ) : Parsed → Type 0 where
+  seen-deep : Deep (input text (tokensIn w)) → U ≡ replicate m 0 → Seen text w m U Parsed.Deep
+  seen-syntax : (Deep (input text (tokensIn w)) → ⊥) → ((ns : List Node) (us : List Token) → Tree (input text (tokensIn w)) ns us → ⊥) → U ≡ replicate m 0 → Seen text w m U Parsed.Syntax
+  seen-tree : {ns : List Node} {k : ℕ} → (Deep (input text (tokensIn w)) → ⊥) → Tree (input text (tokensIn w)) ns (unknownNumerals (tokensIn w)) → k ≡ min (length ns) MAX64 → U ≡ table 16 entryOf m ns
+      → Seen text w m U (Parsed.Tree k)
+
+seen : {text w : List ℕ} {m : ℕ} {U : List ℕ} {p : Parsed} → ParsedIs text w m U p → Seen text w m U p
+seen {text} {w} {m} {U} v = subst (Seen text w m U) (sym (v .answer)) (go (v .verdict) (v .is) (v .nodes))
+  where
+    go : (x : Verdict) → VerdictIs (input text (tokensIn w)) x → U ≡ nodesOf m x → Seen text w m U (answerOf x)
+    go deep (is-deep d) n = seen-deep d n
+    go (tree ns) (is-tree d t) n = seen-tree d (subst (Tree _ ns) (unknown-suffixes t) t) refl n
+    go syntax (is-syntax d s) n = seen-syntax d s n
+
+module _ {text w : List ℕ} {m : ℕ} {U : List ℕ} {p : Parsed} (v : ParsedIs text w m U p) where
+  module _ {C : List ℕ} where
+    no-errors : C ≡ laid 8 encodeDiagnostic C []
+    no-errors = sym (laid-none encodeDiagnostic 8 (omega arith) diagnostic-size C)
+
+    pub closes-nest : p ≡ Parsed.Deep → TokensRead text w m U C C Reading.Nest
+    closes-nest e = go (subst (Seen text w m U) e (seen v))
+      where
+        go : Seen text w m U Parsed.Deep → TokensRead text w m U C C Reading.Nest
+        go (seen-deep d n) = record { outcome = nest; is = is-nest d; answer = refl; nodes = n ∙ sym (table-none entryOf 16 m); diagnostics = no-errors }
+
+    pub closes-syntax : p ≡ Parsed.Syntax → TokensRead text w m U C C Reading.Syntax
+    closes-syntax e = go (subst (Seen text w m U) e (seen v))
+      where
+        go : Seen text w m U Parsed.Syntax → TokensRead text w m U C C Reading.Syntax
+        go (seen-syntax d s n) = record { outcome = R.syntax; is = R.is-syntax d s; answer = refl; nodes = n ∙ sym (table-none entryOf 16 m); diagnostics = no-errors }
+
+  -- no node is left
+  cleared-nodes : {Y : List ℕ} → Y ≡ cleared 0 U → length U ≡ m → Y ≡ table 16 entryOf m []
+  cleared-nodes e l = e ∙ cleared-all U ∙ ap (λ (n : ℕ). replicate n 0) l ∙ sym (table-none entryOf 16 m)
+
+  module _ {k u : ℕ} {C c : List ℕ} (e : p ≡ Parsed.Tree k) (q : Unknown w C c u) where
+    pub closes-suffix : 0 < u → {Y : List ℕ} → Y ≡ cleared 0 U → length U ≡ m → TokensRead text w m Y C c (Reading.Suffix u)
+    closes-suffix h {Y} n l = go (subst (Seen text w m U) e (seen v)) (unknownNumerals (tokensIn w)) refl
+      where
+        go : Seen text w m U (Parsed.Tree k) → (us : List Token) → unknownNumerals (tokensIn w) ≡ us → TokensRead text w m Y C c (Reading.Suffix u)
+        go (seen-tree d t k-is i) [] z = absurd (omega (arith, q .count, ap length z))
+        go (seen-tree d t k-is i) (x ∷ us) z =
+            record {
+              outcome = suffix (x ∷ us);
+              is = is-suffix d (subst (Tree _ _) z t);
+              answer = ap Reading.Suffix (q .count ∙ ap length z);
+              nodes = cleared-nodes n l;
+              diagnostics = q .listed ∙ ap (λ (y : List Token). laid 8 encodeDiagnostic C (map suffixError y)) z;
+            }
+
+    -- none has an unknown suffix, and all nodes are counted
+    record Plain : Type 0 where
+      ns : List Node
+      shallow : Deep (input text (tokensIn w)) → ⊥
+      tree-is : Tree (input text (tokensIn w)) ns []
+      count : k ≡ length ns
+      nodes : U ≡ table 16 entryOf m ns
+      diagnostics : c ≡ laid 8 encodeDiagnostic C []
+
+    plain : u ≤ 0 → length w < 0x1_0000_0000_0000_0000 → Plain
+    plain h b = go (subst (Seen text w m U) e (seen v)) (unknownNumerals (tokensIn w)) refl
+      where
+        go : Seen text w m U (Parsed.Tree k) → (us : List Token) → unknownNumerals (tokensIn w) ≡ us → Plain
+        go (seen-tree {ns = ns} d t k-is i) [] z =
+            record {
+              ns = ns;
+              shallow = d;
+              tree-is = subst (Tree _ _) z t;
+              count = omega (arith, k-is, few t, tokens-length w);
+              nodes = i;
+              diagnostics = q .listed ∙ ap (λ (y : List Token). laid 8 encodeDiagnostic C (map suffixError y)) z;
+            }
+        go (seen-tree d t k-is i) (x ∷ us) z = absurd (omega (arith, q .count, ap length z))
+
+    pub closes-room : u ≤ 0 → length w < 0x1_0000_0000_0000_0000 → {r : ℕ} → r ≡ length U / 16 → r < k → {Y : List ℕ} → Y ≡ cleared 0 U → length U ≡ m → TokensRead text w m Y C c (Reading.NodeRoom k)
+    closes-room h b f g n l =
+        let y = plain h b in
+        record {
+          outcome = node-room (y .ns);
+          is = is-node-room (y .shallow) (y .tree-is) (omega (arith, y .count, f, ap (λ (j : ℕ). j / 16) l));
+          answer = ap Reading.NodeRoom (y .count);
+          nodes = cleared-nodes n l;
+          diagnostics = y .diagnostics;
+        }
+
+    pub closes-accepted : u ≤ 0 → length w < 0x1_0000_0000_0000_0000 → {r t : ℕ} → r ≡ length U / 16 → k ≤ r → t ≡ length w / 16 → length U ≡ m → TokensRead text w m U C c (Reading.Accepted t k)
+    closes-accepted h b f g t-is l =
+        let y = plain h b in
+        record {
+          outcome = accepted (tokensIn w) (y .ns);
+          is = is-accepted (y .shallow) (y .tree-is) (omega (arith, y .count, f, ap (λ (j : ℕ). j / 16) l));
+          answer = ap₂ Reading.Accepted (t-is ∙ sym (tokens-length w)) (y .count);
+          nodes = y .nodes;
+          diagnostics = y .diagnostics;
+        }

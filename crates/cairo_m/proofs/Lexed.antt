@@ -1,0 +1,140 @@
+-- The tokens of a text stand in order within it, and every field of a token fits its width. Assumes nothing.
+use mathlib.Core.Path.{_≡_, refl, sym, subst}
+use mathlib.Core.Bool.{Bool, true, false, cond}
+use mathlib.Core.List.{List, [], _∷_}
+use Prim.Native.Nat.{ℕ, zero, suc, _+_, _*_, _^_, _≤_, _<_, zero-le}
+use native.Mathlib.Omega.{arith}
+use native.Mathlib.Nat.{le-refl, le-trans}
+use lib.Dec.{ltb, eqb}
+use lib.ListN.{length, take, drop, getD, length-drop}
+use borrow.Author.Tests.{ltb-false}
+use Rattle.patterns.specs.Bytes.{bytes, same}
+use Rattle.tables.specs.Tables.{Token, Diagnostic}
+use Rattle.tables.proofs.Laws.{TokenFits, zero-token}
+use Rattle.numeral.specs.Numeral.{most, baseOf, digitOf, digitIn, cutOf, suffixKind, reading, readTo, restOf, numeralOf}
+use Rattle.numeral.specs.declared.NumberLiteral.{NumberLiteral}
+use Rattle.numeral.specs.declared.NumberLiteral.the-variants.{Number, Overflow, InvalidFormat}
+use Rattle.lexer.specs.Tokens.{Spells, white-space, comment, numeral, name, fixed}
+use Rattle.lexer.specs.Lexes.{Item, skipped, token, error, itemOf, Step, matched, strange, tokens, Lexes, done, step}
+use Rattle.lexer.proofs.Texts.{fixed-kind}
+use Rattle.lexer.proofs.Determined.{step-some}
+use Rattle.grammar.proofs.Spans.{Ordered}
+
+-- what holds either way of a test
+pub either-way : {A : Type 0} (P : A → Type 0) {a b : A} (c : Bool) → (c ≡ true → P a) → (c ≡ false → P b) → P (cond c a b)
+either-way P true f g = f refl
+either-way P false f g = g refl
+
+-- ---- numerals: a value of 64 bits and a suffix up to 3
+data Small : NumberLiteral → Type 0 where
+  number : {v x : ℕ} → v ≤ most → x ≤ 3 → Small (Number v x)
+  overflow : Small Overflow
+  format : Small InvalidFormat
+
+suffix-small : (s : List ℕ) → suffixKind s ≤ 3
+unfolding suffixKind
+suffix-small s = go (eqb (length s) 0) (same (bytes "felt") s) (same (bytes "u32") s)
+  where
+    go : (a b c : Bool) → cond a 0 (cond b 1 (cond c 2 3)) ≤ 3
+    go true b c = omega arith
+    go false true c = omega arith
+    go false false true = omega arith
+    go false false false = omega arith
+
+reading-small : (base x v : ℕ) (s : List ℕ) → x ≤ 3 → v ≤ most → Small (reading base x v s)
+unfolding reading
+reading-small base x v [] h k = number k h
+reading-small base x v (b ∷ s) h k =
+    either-way Small (digitIn base b)
+    (λ p. either-way Small (ltb most (v * base + digitOf b)) (λ q. overflow) (λ q. reading-small base x (v * base + digitOf b) s h (ltb-false _ _ q)))
+    (λ p. format)
+
+rest-small : (base : ℕ) (s : List ℕ) → Small (restOf base s)
+unfolding restOf readTo
+rest-small base s =
+    let k = cutOf base s in
+    either-way Small (eqb k 0) (λ p. format)
+    (λ p. either-way Small (digitIn 10 (getD s k 0)) (λ q. format) (λ q. reading-small base (suffixKind (drop k s)) 0 (take k s) (suffix-small (drop k s)) zero-le))
+
+numeral-small : (s : List ℕ) → Small (numeralOf s)
+unfolding numeralOf
+numeral-small s = rest-small (baseOf s) (cond (eqb (baseOf s) 10) s (drop 2 s))
+
+-- ---- items
+data Fine : Item → Type 0 where
+  nothing : Fine skipped
+  fine : {k x v : ℕ} → k < 256 → x < 256 → v < 2 ^ 64 → Fine (token k x v)
+  wrong : {r : ℕ} → Fine (error r)
+
+spells-kind : {k : ℕ} {s : List ℕ} → Spells k s → k < 51
+spells-kind (white-space e p) = omega arith
+spells-kind (comment e p) = omega arith
+spells-kind (numeral e p) = omega arith
+spells-kind (name e p) = omega arith
+spells-kind {k} (fixed h e) = fixed-kind k (subst (λ (w : List ℕ). 1 ≤ length w) e h)
+
+item-fine : (k : ℕ) {a : NumberLiteral} → k < 51 → Small a → Fine (itemOf k a)
+item-fine zero h s = nothing
+item-fine (suc zero) h (number {v} {x} p q) = fine {k = 1} {x = x} {v = v} (omega arith) (omega arith) (omega arith)
+item-fine (suc zero) h overflow = wrong
+item-fine (suc zero) h format = wrong
+item-fine (suc (suc k)) h s = fine {k = suc (suc k)} {x = 0} {v = 0} (omega arith) (omega arith) (omega arith)
+
+step-fine : {s : List ℕ} {n : ℕ} {i : Item} → Step s n i → Fine i
+step-fine {s} {n} (matched k b e) = subst Fine (sym e) (item-fine k (spells-kind (b .spells)) (numeral-small (take n s)))
+step-fine (strange c t b e) = subst Fine (sym e) wrong
+
+-- ---- tokens one after the other, from a on and within n bytes
+record Placed (n : ℕ) (t : Token) : Type 0 where
+  some : t .start < t .end
+  inside : t .end ≤ n
+  kind-fits : t .kind < 256
+  suffix-fits : t .suffix < 256
+  value-fits : t .value < 2 ^ 64
+
+data Line (n : ℕ) : ℕ → List Token → Type 0 where
+  end : {a : ℕ} → Line n a []
+  next : {a : ℕ} {t : Token} {ts : List Token} → a ≤ t .start → Placed n t → Line n (t .end) ts → Line n a (t ∷ ts)
+
+earlier : {n a b : ℕ} {ts : List Token} → b ≤ a → Line n a ts → Line n b ts
+earlier h end = end
+earlier h (next g p l) = next (le-trans h g) p l
+
+item-line : {n a e : ℕ} {i : Item} {ts : List Token} → Fine i → a < e → e ≤ n → Line n e ts → Line n a (tokens i a e ts)
+item-line nothing h k l = earlier (omega arith) l
+item-line (fine p q r) h k l = next (le-refl _) (record { some = h; inside = k; kind-fits = p; suffix-fits = q; value-fits = r }) l
+item-line wrong h k l = earlier (omega arith) l
+
+line : {n at : ℕ} {s : List ℕ} {ts : List Token} {ds : List Diagnostic} → Lexes at s ts ds → at + length s ≤ n → Line n at ts
+line done h = end
+line {s = s} (step n i st l) h =
+    let k = step-some st in
+    item-line (step-fine st) (omega arith) (omega arith) (line l (omega (arith, length-drop n s)))
+
+line-at : {n a : ℕ} {ts : List Token} → Line n a ts → (i : ℕ) → i < length ts → Placed n (getD ts i zero-token)
+line-at end i h = absurd (omega arith)
+line-at (next g p l) zero h = p
+line-at (next g p l) (suc i) h = line-at l i (omega arith)
+
+line-from : {n a : ℕ} {ts : List Token} → Line n a ts → 0 < length ts → a ≤ getD ts 0 zero-token .start
+line-from end h = absurd (omega arith)
+line-from (next g p l) h = g
+
+line-apart : {n a : ℕ} {ts : List Token} → Line n a ts → (i : ℕ) → suc i < length ts → getD ts i zero-token .end ≤ getD ts (suc i) zero-token .start
+line-apart end i h = absurd (omega arith)
+line-apart (next g p l) zero h = line-from l (omega arith)
+line-apart (next g p l) (suc i) h = line-apart l i (omega arith)
+
+module _ {text : List ℕ} {ts : List Token} {ds : List Diagnostic} (l : Lexes 0 text ts ds) where
+  in-line : Line (length text) 0 ts
+  in-line = line l (omega arith)
+
+  pub ordered : Ordered (record { text = text; tokens = ts })
+  ordered = record { some = λ i h. line-at in-line i h .some; apart = line-apart in-line; inside = λ i h. line-at in-line i h .inside }
+
+  pub fits : length text ≤ 65535 → (i : ℕ) → i < length ts → TokenFits (getD ts i zero-token)
+  fits h i k = let p = line-at in-line i k in omega arith
+
+  -- without a bound on the text
+  pub values : (i : ℕ) → i < length ts → getD ts i zero-token .value < 2 ^ 64
+  values i k = line-at in-line i k .value-fits

@@ -1,0 +1,15 @@
+pub mod Fields
+pub mod Front
+pub mod Lending
+pub mod Locals
+pub mod Walking
+pub mod Lexed
+pub mod Spellings
+pub mod Noting
+pub mod Closing
+pub mod Demand1
+pub mod Joining
+pub mod Determined
+pub mod Demand3
+pub mod Edge
+pub mod Outcomes

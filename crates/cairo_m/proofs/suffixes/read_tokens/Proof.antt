@@ -1,0 +1,36 @@
+use native.Mathlib.Omega.{arith}
+use borrow.Author.Needs.{needs}
+use Rattle.cairo_m.proofs.Closing.{closes-nest, closes-syntax, closes-suffix, closes-room, closes-accepted}
+use Rattle.cairo_m.proofs.suffixes.read_tokens.Statement.{statement}
+use Rattle.cairo_m.proofs.suffixes.read_tokens.Tie as tie
+
+pub read-tokens-spec : {M : Type 1} → statement M
+read-tokens-spec =
+    tie.close
+    (tie.spec
+    (λ c κs. search needs)
+    (λ c. search needs)
+    (λ c. search needs)
+    (λ c. search needs)
+    (λ c κs. search needs)
+    (λ c κs. search needs)
+    (λ c. search needs)
+    (λ c. search needs)
+    (λ c. search (needs, closes-suffix))
+    (λ c κs. search needs)
+    (λ c κs. search needs)
+    (λ c. search needs)
+    (λ c. search needs)
+    (λ c. search (needs, closes-room))
+    (λ c κs. search needs)
+    (λ c. search needs)
+    (λ c. search (needs, closes-nest))
+    (λ c. search needs)
+    (λ c. search (needs, closes-syntax))
+    (λ c. search needs)
+    (λ c. search needs)
+    (λ c.
+    let d = c .before .before .before .before in
+    let e = d .before .before .before in
+    let f = e .before .before .before in
+    closes-accepted (f .before .before .before .before .parse .ensures) (f .parsed .given .1) (e .unknown-suffixes .ensures) (d .if1 .left) (omega (arith, f .before .before .before .before .before .before .before .before .before .before .good)) (c .before .before .room .ensures) (c .before .if2 .left) (c .room2 .ensures) (search needs)))

@@ -1,0 +1,65 @@
+// From the bytes of a Cairo-M text to its tree, after parse_file, with 01's outcomes.
+mod entry;
+mod names;
+mod records;
+mod suffixes;
+
+use crate::suffixes::read_tokens;
+pub use entry::cairo_m_read;
+pub use entry::cairo_m_spelling;
+pub use entry::outcome_of;
+pub use entry::read_numbers;
+use lexer::Answer;
+use lexer::lex_alone;
+pub use names::spelling;
+pub use records::Diagnostic;
+use tables::clear_from;
+ghost use lib.ListN.{length};
+ghost use Rattle.cairo_m.specs.Reading.{ReadingIs};
+
+// The outcomes of a reading, with how many tokens, nodes or errors there are.
+pub enum Reading {
+    Accepted { tokens: usize, nodes: usize },
+    Long,
+    Encoding,
+    Lexical(usize),
+    TokenRoom(usize),
+    Nest,
+    NodeRoom(usize),
+    Syntax,
+    Suffix(usize),
+}
+
+// Reads a text into the tables. What is not used of them is zero, and after a refusal the token and node tables are all zero.
+pub fn read(text: &[u8], tokens: &mut [u8], nodes: &mut [u8], diagnostics: &mut [u8]) -> Reading
+    ensures { λ r. ⌜ ReadingIs (now (text .entry)) (length (now (tokens .entry))) (length (now (nodes .entry))) (length (now (diagnostics .entry))) (now (tokens .exit)) (now (nodes .exit)) (now (diagnostics .exit)) r ⌝ }
+{
+    let lexed = lex_alone(text, tokens, diagnostics);
+    match lexed {
+        Answer::Accepted(t) => {
+            let end = t * 16;
+            let r = read_tokens(text, &tokens[0..end], nodes, diagnostics);
+            if outcome_of(r) == 0 {
+                return r;
+            }
+            clear_from(tokens, 0);
+            r
+        }
+        Answer::Long => {
+            clear_from(nodes, 0);
+            Reading::Long
+        }
+        Answer::Encoding => {
+            clear_from(nodes, 0);
+            Reading::Encoding
+        }
+        Answer::Lexical(d) => {
+            clear_from(nodes, 0);
+            Reading::Lexical(d)
+        }
+        Answer::TokenRoom(t) => {
+            clear_from(nodes, 0);
+            Reading::TokenRoom(t)
+        }
+    }
+}

@@ -1,0 +1,8 @@
+pub mod Decimal
+pub mod Writing
+pub mod Arrays
+pub mod Names
+pub mod Fields
+pub mod Results
+pub mod Determined
+pub mod Examples

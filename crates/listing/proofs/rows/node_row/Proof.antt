@@ -1,0 +1,50 @@
+use borrow.Author.Needs.{needs}
+use native.Mathlib.Omega.{arith}
+use Rattle.listing.proofs.Writing.{both, same-text}
+use Rattle.listing.proofs.Fields.{row-is}
+use Rattle.listing.proofs.rows.node_row.Statement.{statement}
+use Rattle.listing.proofs.rows.node_row.Tie as tie
+
+pub node-row-spec : {M : Type 1} → statement M
+node-row-spec =
+    tie.close
+    (tie.spec
+    (λ c. search needs)
+    (λ c κs. search needs)
+    (λ c κs. search needs)
+    (λ c κs. search needs)
+    (λ c. search needs)
+    (λ c κs. search needs)
+    (λ c κs. search needs)
+    (λ c. search needs)
+    (λ c κs. search needs)
+    (λ c κs. search needs)
+    (λ c. search needs)
+    (λ c κs. search needs)
+    (λ c κs. search needs)
+    (λ c. search needs)
+    (λ c κs. search needs)
+    (λ c. search needs)
+    (λ c κs. search needs)
+    (λ c κs. search needs)
+    (λ c κs. search needs)
+    (λ c. search needs)
+    (λ c κs. search needs)
+    (λ c. let late = c .before .before .before .before .before .before .before .before .before .before .before .before in let early = late .before .before .before .before .before .before .before .before .before .before .before .before in omega (arith, late, early, early .before .before .before .before .before .before .before .before .before .before .before .before))
+    (λ c.
+    let close = c .before .before in
+    let value = close .before .before .before .before .before in
+    let comma = value .before .before .before .before .before in
+    let children = comma .before .before .before .before .before in
+    let end = children .before .before .before .before .before in
+    let start = end .before .before .before .before .before in
+    let quote = start .before .before .before .before .before in
+    let kind = quote .before .before .before .before .before in
+    same-text
+    (row-is _ (kind .before .before .kind .ensures) (start .before .start .ensures) (end .before .end .ensures) (children .before .children .ensures) (value .before .value .ensures))
+    (both (kind .before .before .before .before .before .put .ensures)
+    (both (kind .put-name .ensures)
+    (both (quote .put2 .ensures)
+    (both (start .put-next .ensures)
+    (both (end .put-next2 .ensures)
+    (both (children .put-next3 .ensures) (both (comma .put3 .ensures) (both (value .put-value .ensures) (close .put4 .ensures)))))))))))

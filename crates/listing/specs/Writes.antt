@@ -1,0 +1,32 @@
+-- The contracts of the private functions. Assumes nothing.
+use mathlib.Core.Path.{_≡_}
+use mathlib.Core.List.{List, _∷_, _++_}
+use Prim.Native.Nat.{ℕ, _-_, _≤_, _<_}
+use Prim.Native.String.{String}
+use lib.ListN.{length, take, replicate}
+use Rattle.patterns.specs.Bytes.{bytes}
+use Rattle.tables.specs.Tables.{joined}
+use Rattle.listing.specs.Json.{names}
+use Rattle.listing.specs.Answers.{fitted, ListedIs}
+use Rattle.listing.specs.declared.Listed.{Listed}
+
+-- out begins with the text t, which ends at this place; or t is longer than out and the place is past its end
+pub data Holds (t : List ℕ) (at : ℕ) (out : List ℕ) : Type 0 where
+  held : at ≤ length out → take at out ≡ t → Holds t at out
+  full : length out < length t → length out < at → Holds t at out
+
+-- whatever text stood before, w now follows it
+pub record Writes (w : List ℕ) (at : ℕ) (T : List ℕ) (r : ℕ) (U : List ℕ) : Type 0 where
+  pub on : (t : List ℕ) → Holds t at T → Holds (t ++ w) r U
+
+-- the answer r and the bytes U for the text that T holds
+pub record Finishes (at : ℕ) (T U : List ℕ) (r : Listed) : Type 0 where
+  pub on : (t : List ℕ) → Holds t at T → ListedIs (fitted (length T) t) (length T) U r
+
+-- a name in 14 bytes: its length, itself, dots
+unfoldable pub nameRow : String → List ℕ
+nameRow s = length (bytes s) ∷ bytes s ++ replicate (13 - length (bytes s)) 46
+
+-- the names of the kinds from 0 on, which is none
+unfoldable pub nameTable : List ℕ
+nameTable = joined nameRow ("" ∷ names)
