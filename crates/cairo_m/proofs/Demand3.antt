@@ -14,8 +14,9 @@ use Rattle.grammar.proofs.Whole.{tree-one}
 use Rattle.grammar.proofs.Spans.{Each, no-node, node}
 use Rattle.grammar.proofs.Fits.{fits}
 use Rattle.cairo_m.specs.declared.Reading.{Reading}
+use Rattle.cairo_m.specs.declared.records.Diagnostic.{Diagnostic as Record}
 use Rattle.cairo_m.specs.Reading.{input, Outcome, accepted, syntax, TokensAre, is-nest, is-syntax, is-suffix, is-node-room, is-accepted}
-use Rattle.cairo_m.specs.Reading.{OutcomeIs, is-long, is-encoding, is-lexical, is-token-room, is-lexed, readingOf, nodesOf, ReadingIs, outcomeOf, countsOf}
+use Rattle.cairo_m.specs.Reading.{OutcomeIs, is-long, is-encoding, is-lexical, is-token-room, is-lexed, readingOf, nodesOf, ReadingIs, outcomeOf, Counts, countsOf, EntryIs}
 use Rattle.cairo_m.proofs.Determined.{some-none, errors-one, moved}
 use Rattle.cairo_m.proofs.Lexed.{ordered, values}
 
@@ -35,17 +36,17 @@ pub record Derived (text : List ℕ) (ts : List Token) : Type 0 where
   pub unknown : List Token
   pub tree : Tree (input text ts) nodes unknown
 
--- the nodes handed out: as many as the count says
-abbrev pub handed : List ℕ → Reading → List Node
-handed b r = tabulate (countsOf r .nodes) (λ i. nodeAt b i)
+-- the nodes handed out in the table b: as many as the count says
+abbrev pub handed : List ℕ → ℕ → List Node
+handed b count = tabulate count (λ i. nodeAt b i)
 
-pub record Demand (text : List ℕ) (ts : List Token) (b : List ℕ) (r : Reading) : Type 0 where
+pub record Demand (text : List ℕ) (ts : List Token) (b : List ℕ) (outcome count : ℕ) : Type 0 where
   -- accepted exactly if the grammar derives all tokens
-  pub only-if : outcomeOf r ≡ 0 → Derived text ts
-  pub if : Derived text ts → outcomeOf r ≡ 0
+  pub only-if : outcome ≡ 0 → Derived text ts
+  pub if : Derived text ts → outcome ≡ 0
   -- then the nodes handed out are a tree that it derives, and it derives no other
-  pub tree : outcomeOf r ≡ 0 → Tree (input text ts) (handed b r) []
-  pub no-other : outcomeOf r ≡ 0 → (ns : List Node) (us : List Token) → Tree (input text ts) ns us → ns ≡ handed b r
+  pub tree : outcome ≡ 0 → Tree (input text ts) (handed b count) []
+  pub no-other : outcome ≡ 0 → (ns : List Node) (us : List Token) → Tree (input text ts) ns us → ns ≡ handed b count
 
 -- ---- the proof
 
@@ -73,17 +74,26 @@ each-at no-node i h = absurd (omega arith)
 each-at (node p e) zero h = p
 each-at (node p e) (suc i) h = each-at e i (omega arith)
 
-pub demand-3 : {text : List ℕ} {k m n : ℕ} {a b c : List ℕ} {r : Reading} {ts : List Token} → ReadingIs text k m n a b c r → Premises text (k / 16) (m / 16) ts → Demand text ts b r
-demand-3 {text} {m = m} {b = b} {r} {ts} v p = subst (Demand text ts b) (sym (v .answer)) (go (v .outcome) (under p (v .is)) (v .nodes))
-  where
-    go : (o : Outcome) → Under text (m / 16) ts o → b ≡ nodeTable m (nodesOf o) → Demand text ts b (readingOf o)
-    go o (underived s) e = record { only-if = λ z. absurd (omega arith); if = λ d. absurd (s _ _ (d .tree)); tree = λ z. absurd (omega arith); no-other = λ z. absurd (omega arith) }
-    go o (derived {ns = ns} t h) e =
-        let same : tabulate (length ns) (λ i. nodeAt b i) ≡ ns =
-        rw e (nodes-of-table ns m h (each-at (fits (ordered (p .lexes)) (p .short) (values (p .lexes)) t))) in
-        record {
-          only-if = λ z. record { nodes = ns; unknown = []; tree = t };
-          if = λ d. refl;
-          tree = λ z. subst (λ (x : List Node). Tree (input text ts) x []) (sym same) t;
-          no-other = λ z ns′ us t′. tree-one t′ t .0 ∙ sym same;
-        }
+demanded : {text : List ℕ} (m : ℕ) {b : List ℕ} {t : ℕ} {ts : List Token} {o : Outcome} → Premises text t (m / 16) ts → Under text (m / 16) ts o → b ≡ nodeTable m (nodesOf o)
+    → Demand text ts b (outcomeOf (readingOf o)) (countsOf (readingOf o) .nodes)
+demanded m p (underived s) e =
+    record { only-if = λ z. absurd (omega arith); if = λ d. absurd (s _ _ (d .tree)); tree = λ z. absurd (omega arith); no-other = λ z. absurd (omega arith) }
+demanded {text} m {b} {ts = ts} p (derived {ns = ns} t h) e =
+    let same : handed b (length ns) ≡ ns =
+    rw e (nodes-of-table ns m h (each-at (fits (ordered (p .lexes)) (p .short) (values (p .lexes)) t))) in
+    record {
+      only-if = λ z. record { nodes = ns; unknown = []; tree = t };
+      if = λ d. refl;
+      tree = λ z. subst (λ (x : List Node). Tree (input text ts) x []) (sym same) t;
+      no-other = λ z ns′ us t′. tree-one t′ t .0 ∙ sym same;
+    }
+
+pub demand-3 : {text : List ℕ} {k m n : ℕ} {a b c : List ℕ} {r : Reading} {ts : List Token} → ReadingIs text k m n a b c r → Premises text (k / 16) (m / 16) ts
+    → Demand text ts b (outcomeOf r) (countsOf r .nodes)
+demand-3 {text} {m = m} {b = b} {ts = ts} v p = subst (λ (r : Reading). Demand text ts b (outcomeOf r) (countsOf r .nodes)) (sym (v .answer)) (demanded m p (under p (v .is)) (v .nodes))
+
+-- the same of what the C entry answers
+pub at-the-desk : {text : List ℕ} {k m n l : ℕ} {a b c : List ℕ} {e : List Record} {o t u d : ℕ} {ts : List Token} → EntryIs text k m n l a b c e o t u d → Premises text (k / 16) (m / 16) ts → Demand text ts b o u
+at-the-desk {text} {b = b} {ts = ts} v p =
+    let w = v .numbers in
+    rw (w .outcome-is, ap (λ (x : Counts). x .nodes) (w .counts-are)) (demand-3 (w .reading) p)
