@@ -1,7 +1,8 @@
 // cairo_m.h: the reader of Cairo-M texts, for the exam desk.
 //
-// `make -C c` writes target/c/libcairo_m.a, which has the functions declared here and needs nothing else to link. Every answer is
-// proved against the order's scope paper, here called 01, for whatever bytes and sizes are handed in.
+// `make -C c` writes target/c/libcairo_m.a, which has the functions declared here and needs nothing of others but memset and its
+// like from the C library. Every answer is proved against the order's scope paper, here called 01, for whatever bytes and sizes are
+// handed in.
 //
 // A reading in short:
 //

@@ -434,25 +434,55 @@ REFUSED_RUNS = [
 ]
 
 
+def run_text(run):
+    before, part, times, after = run
+    return Text(*[part for part in (before, (part, times), after) if part])
+
+
 def long_cases(cases):
-    for before, part, times, after in RUNS + REFUSED_RUNS:
-        text = Text(*[part for part in (before, (part, times), after) if part])
-        cases.read(text)
-    for before, part, times, after in (RUNS[0], RUNS[3], RUNS[17], RUNS[26]):
-        text = Text(*[part for part in (before, (part, times), after) if part])
+    for run in RUNS:
+        cases.read(run_text(run))
+    for run in (RUNS[0], RUNS[3], RUNS[17], RUNS[26]):
+        text = run_text(run)
         tokens, nodes, _ = text.needs()
         cases.read(text, tokens, nodes, 0, 0)
         cases.read(text, tokens - 1, nodes, 0, 0)
         cases.read(text, tokens, nodes - 1, 0, 0)
         cases.read(text, 16384, 16384, 8192, 4)
         cases.read(text, tokens, 16384, 8192, 4)
-    for before, part, times, after in (REFUSED_RUNS[21], REFUSED_RUNS[23]):
-        text = Text(*[part for part in (before, (part, times), after) if part])
+
+
+def refused_long_cases(cases):
+    for run in REFUSED_RUNS:
+        cases.read(run_text(run))
+    for run in (REFUSED_RUNS[21], REFUSED_RUNS[23]):
+        text = run_text(run)
         tokens, nodes, diagnostics = text.needs()
         cases.read(text, tokens, 0, diagnostics - 8, diagnostics // 8)
         cases.read(text, tokens, nodes, 8192, 2000)
         cases.read(text, tokens, nodes, 8, 1)
         cases.read(text, tokens, nodes, 0, 3)
+
+
+# The same part again and again up to the nest's limit, by way of every level of operators: what takes the most of the stack.
+DEEP_PARTS = ["(", "[", "f(", "a[", "P{x:", "new T[", "1||(", "1*(", "1||1|1==1+1*-(", "1||1|1==1+1*-P{x:1,y:", "1||1|1==1+1*-[1,", "1||1|1==1+1*-f(1,",
+              "1||1|1==1+1*-new T[", "1||1|1==1+1*a.b["]
+
+
+def deepest_cases(cases):
+    for part in DEEP_PARTS:
+        for times in (63, 64, 65):
+            cases.read(Text("const A = ", (part, times), "1"))
+            cases.read(Text("fn f() { if (", (part, times - 2), "1"))
+    close = {"(": ")", "[": "]", "{": "}"}
+    for part in DEEP_PARTS:
+        closers = "".join(close[mark] for mark in reversed(part) if mark in close)
+        for times in (62, 63, 64):
+            cases.read(Text("const A = ", (part, times), "1", (closers, times), ";"))
+    for part in ("{", "{x;", "loop ", "if(a)", "if(a){}else ", "while a==1 ", "for(x;y;z)"):
+        for inner in ("(", "1||1|1==1+1*-P{x:1,y:"):
+            for times in (31, 32, 33):
+                cases.read(Text("fn f() {", (part, 31), "x=", (inner, times), "1"))
 
 
 # ---- damaged examples
@@ -509,7 +539,7 @@ class Maker:
         return self.one("a", "b", "x", "y1", "reel", "felt", "u32", "_t")
 
     def number(self):
-        return self.one("0", "1", "42", "0x1f", "0b10", "3u32", "4felt", "0o17", "18446744073709551615", "9u8" if self.slip() else "7")
+        return self.one("0", "1", "42", "0x1f", "0b10", "3u32", "4felt", "0o17", "18446744073709551615", "9u8" if self.slip() or self.slip() else "7")
 
     def listed(self, make, low, high, trailing=True):
         parts = self.some(make, low, high)
@@ -617,11 +647,15 @@ class Maker:
 
 
 def made_texts(cases, seed, count, longest):
+    """Now and then with a table that has an entry too few."""
     chance = expected.Chance(seed)
     while count:
-        text = Maker(chance, chance.below(2)).text()
-        if len(text) <= longest:
-            cases.read(text)
+        text = Text(Maker(chance, chance.below(2)).text())
+        if len(text.bytes) <= longest:
+            tokens, nodes, diagnostics = text.needs()
+            short = chance.below(16)
+            cases.read(text, max(0, tokens - 1 - chance.below(32)) if short == 0 else None,
+                       max(0, nodes - 1 - chance.below(32)) if short == 1 else None, chance.below(diagnostics + 1) if short < 8 else None)
             count -= 1
 
 
@@ -788,13 +822,17 @@ def all_cases():
             base = cases.base(text)
             answer = cases.damaged(base, [])
             if answer.outcome == ACCEPTED:
-                damages(cases, chance, base, 40)
+                damages(cases, chance, base, 30)
     cases.section("texts made by chance")
-    made_texts(cases, 70, 250, 300)
+    made_texts(cases, 70, 200, 300)
     cases.section("texts nested by chance")
     nested_texts(cases, 64, 120)
+    cases.section("the nest, by what takes the most of the stack")
+    deepest_cases(cases)
     cases.section("long texts")
     long_cases(cases)
+    cases.section("long texts that are refused")
+    refused_long_cases(cases)
     cases.section("spellings")
     spelling_cases(cases)
     cases.section("listings")

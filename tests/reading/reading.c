@@ -6,7 +6,7 @@
 //
 // Every buffer is lent twice at its exact size: once it ends right before a page that may not be touched, once it begins right after
 // one. On its open side stand guard bytes. Tables are full of other bytes before a call, and what is only read is compared after it.
-// All calls are made on one small stack; how much of it was used is printed for each part of the cases.
+// All calls are made on one small stack; how much of it was used is printed for each part of the cases, and does not grow with a text.
 #define _GNU_SOURCE
 #include <pthread.h>
 #include <stdbool.h>
@@ -18,7 +18,7 @@
 
 #include "../../c/cairo_m.h"
 
-enum { GUARD = 0x5C, POISON = 0xAA, UNUSED = 0xA5, GUARD_SIZE = 4096, STACK = 256 * 1024, LONGEST_JSON = 200, MOST_SHOWN = 20 };
+enum { GUARD = 0x5C, POISON = 0xAA, UNUSED = 0xA5, GUARD_SIZE = 4096, STACK = 512 * 1024, LONGEST_JSON = 200, MOST_SHOWN = 20 };
 
 // More than the longest text, so that longer ones can be tried, and room for as many entries as it has bytes.
 enum { TEXT_ROOM = 1 << 17, TABLE_ROOM = 1 << 21, OUT_ROOM = 1 << 23, BASES = 64 };
@@ -424,12 +424,19 @@ static size_t stack_used(void) {
     return STACK - unused;
 }
 
+// Marks the stack as unused, up to a little below the caller's frame.
+static void mark_stack(void) {
+    uint8_t here;
+    memset(stack, UNUSED, (size_t)((uintptr_t)&here - (uintptr_t)stack) - 4096);
+}
+
 static const char *cases_name, *owed_name;
 static size_t only, differing;
 
 static void see_part(const char *title, size_t count) {
     if (owed_name != NULL && count > 0)
-        printf("reading: %.*s: %zu cases, at most %zu bytes of stack so far\n", (int)strcspn(title, "\n"), title, count, stack_used());
+        printf("reading: %.*s: %zu cases, %zu bytes of stack\n", (int)strcspn(title, "\n"), title, count, stack_used());
+    mark_stack();
 }
 
 static void compare(const char *line, const char *owed, const char *said) {
@@ -443,8 +450,9 @@ static void *run(void *unused) {
     FILE *cases = fopen(cases_name, "r"), *owed = owed_name != NULL ? fopen(owed_name, "r") : NULL;
     if (cases == NULL || (owed_name != NULL && owed == NULL))
         stop("no such file");
-    char *line = NULL, *wanted = NULL, title[100] = "";
+    char *line = NULL, *wanted = NULL, title[100] = "cases";
     size_t space = 0, wanted_space = 0, count = 0, all = 0;
+    mark_stack();
     while (getline(&line, &space, cases) > 0) {
         line_number++;
         if (line[0] == '#') {
@@ -515,7 +523,6 @@ int main(int words, char **word) {
     if (pages == MAP_FAILED || mprotect(pages + page, STACK, PROT_READ | PROT_WRITE) != 0)
         stop("no memory");
     stack = pages + page;
-    memset(stack, UNUSED, STACK);
     if (pthread_attr_init(&attributes) != 0 || pthread_attr_setstack(&attributes, stack, STACK) != 0 ||
         pthread_create(&thread, &attributes, run, NULL) != 0 || pthread_join(thread, NULL) != 0)
         stop("no thread");
