@@ -45,6 +45,11 @@ PATTERNS += [(kind, re.compile(re.escape(word).encode())) for kind, word in KEYW
 PATTERNS += [("Identifier", re.compile(NAME.encode()))]
 PATTERNS += [(kind, re.compile(re.escape(mark).encode())) for kind, mark in MARKS]
 
+# The patterns that can match at a byte: each of them matches that byte with one of these after it.
+TAILS = {b"", b"x1", b"X1", b"o1", b"O1", b"b1", b"B1", b"/"} | {word[1:].encode() for _, word in KEYWORDS + MARKS}
+STARTING = [[(kind, pattern) for kind, pattern in PATTERNS if any(pattern.match(bytes([byte]) + tail) for tail in TAILS)]
+            for byte in range(256)]
+
 LONGEST_TEXT = 65535
 LARGEST_VALUE = 18446744073709551615
 ACCEPTED, LONG, ENCODING, LEXICAL, TOKEN_ROOM, SPELLING = 0, 1, 2, 3, 4, 9
@@ -109,7 +114,7 @@ def numeral_entry(spelling):
 def longest_match(text, at):
     """(length, kind) of the longest match at a place, (0, None) if no pattern matches."""
     length, found = 0, None
-    for kind, pattern in PATTERNS:
+    for kind, pattern in STARTING[text[at]]:
         match = pattern.match(text, at)
         if match and match.end() - at > length:
             length, found = match.end() - at, kind

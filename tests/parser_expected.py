@@ -2096,9 +2096,7 @@ def token_cases(cases):
     cases.case(text, tokens, TREE, [("Name", 7, 6, 0, 0), ("Named", 13, 9, 0, 3), ("Literal", 17, 16, 0, 1), ("Const", 5, 17, 3, 1)])
 
 
-def all_cases():
-    cases = Cases()
-
+def all_cases(cases):
     cases.section("what 01 names")
     cases.tree("", [])
     cases.trees(ITEM, NAMED_ITEMS)
@@ -2182,7 +2180,7 @@ def run_cases(cases):
 
 
 def files():
-    given, owed = all_cases().files()
+    given, owed = all_cases(Cases()).files()
     return {"crates/parser_cases/stdin": given.encode(), "crates/parser_cases/stdout": owed.encode()}
 
 
