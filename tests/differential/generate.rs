@@ -220,7 +220,8 @@ impl Program<'_> {
 
     /// None or more of a part, parted by commas; how many is left to chance and to the words left.
     fn list(&mut self, least: usize, trailing: bool, part: impl Fn(&mut Self)) {
-        let most = if self.full() { least } else { least + self.random.below(4) };
+        let longest = if self.one_in(30) { 40 } else { 4 };
+        let most = if self.full() { least } else { least + self.random.below(longest) };
         for i in 0..most {
             if i > 0 {
                 self.say(",");
@@ -346,7 +347,8 @@ impl Program<'_> {
             }
             6 => {
                 self.say("new");
-                self.type_expr(false);
+                let arrays = self.slip(6);
+                self.type_expr(arrays);
                 self.say("[");
                 self.expression();
                 self.say("]");
@@ -640,6 +642,7 @@ const AROUND: &[(Sort, &str, &str, Sort)] = &[
     (E, "S { a : 1 , b :", ", }", E),
     (E, "new felt [", "]", E),
     (E, "new", "[ 1 ]", A),
+    (E, "new", "[ 1 ]", T),
     (E, "- ! (", ")", E),
     (E, "a + b * (", ") as felt", E),
     (E, "(", ") . 0 . a", E),
@@ -673,7 +676,9 @@ const AROUND_ITEM: &[(&str, &str, Sort)] = &[
 fn leaf(random: &mut Random, sort: Sort) -> &'static str {
     match sort {
         S => random.pick(&["a ;", "", "{ }", "break ;", "return ;", "if ( a ) { }", "if ( a , b ) { }", "let a = 1 ;"]),
-        E => random.pick(&["a", "1", "1", "1u8", "", "( )", "[ ]", "S { }", "f ( )", "a . 0", "- a", "a + b", "new T [ 1 ]", "S { a : 1 }"]),
+        E => random.pick(&[
+            "a", "1", "1", "1u8", "", "( )", "[ ]", "S { }", "f ( )", "a . 0", "- a", "a as T", "a + b", "new T [ 1 ]", "S { a : 1 }",
+        ]),
         T => random.pick(&["felt", "felt", "( )", "( , )", "", "[ T ; 3 ]", "T * *", "( T )"]),
         A => random.pick(&["felt", "felt", "( )", "( , )", "", "T * *", "( T )"]),
         P => random.pick(&["a", "a", "( a , b )", "", "( a )"]),
@@ -816,7 +821,8 @@ fn is_word_byte(byte: u8) -> bool {
 }
 
 fn render(random: &mut Random, words: &[Word]) -> Vec<u8> {
-    const SPACES: [&str; 10] = [" ", " ", "  ", "\n", "\t", "\r\n", " \n\t ", "// c\n", "//\n", "// \u{e9} if (\n"];
+    const SPACES: [&str; 11] =
+        [" ", " ", "  ", "\n", "\t", "\r\n", " \n\t ", "// c\n", "//\n", "// \u{e9} if (\n", "//\r(/*\r\n"];
     let mut text = Vec::new();
     let style = random.below(12);
     for word in words {
@@ -1000,7 +1006,7 @@ const FRAMES: &[(&str, &str, [&str; 16])] = &[
     ("const A = ", ";", ["a", "1", "3u8", "true", "(", ")", "{", "}", "[", "]", ",", ";", ":", ".", "-", "&&"]),
     ("const A = a ", ";", ["a", "1", "2u32", "+", "*", "<", "==", "&", "||", "!", "-", "as", "(", ")", ".", "["]),
     ("const A: ", " = 1;", ["a", "felt", "u32", "bool", "1", "2u32", "(", ")", "[", "]", ",", ";", "*", "-", "=", ":"]),
-    ("const A = new ", ";", ["a", "felt", "1", "2u32", "(", ")", "[", "]", ",", ";", "*", "-", "{", "}", ":", "new"]),
+    ("const A = new ", "[1];", ["a", "felt", "1", "2u32", "(", ")", "[", "]", ",", ";", "*", "-", "{", "}", ":", "new"]),
     ("fn f(){let ", "= 1;}", ["a", "1", "(", ")", "[", "]", ",", ";", "*", ":", "=", "let", "{", "}", "-", "T"]),
     ("", "", ["a", "1", "fn", "struct", "const", "use", "(", ")", "{", "}", ",", ";", ":", "::", "=", "->"]),
     ("fn ", "{}", ["a", "1", "fn", "struct", "T", "*", "(", ")", "{", "}", ",", ";", ":", "[", "]", "->"]),

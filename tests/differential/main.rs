@@ -413,8 +413,10 @@ impl Desk {
         Ok(())
     }
 
-    /// The smallest text to be had by leaving out bytes while there still is a difference.
+    /// The smallest text to be had in 20 seconds by leaving out bytes while there still is a difference.
     fn shrink(&mut self, text: &[u8], differs: impl Fn(&mut Desk, &[u8]) -> bool) -> Vec<u8> {
+        let end = Instant::now() + Duration::from_secs(20);
+        let differs = |desk: &mut Desk, text: &[u8]| Instant::now() < end && differs(desk, text);
         let mut text = text.to_vec();
         let mut size = text.len() / 2 + 1;
         loop {
@@ -431,12 +433,35 @@ impl Desk {
                 }
             }
             if !smaller && size == 1 {
-                return text;
+                match self.shrink_by_two(&text, &differs) {
+                    Some(candidate) => text = candidate,
+                    None => return text,
+                }
             }
             if !smaller {
                 size = size.div_ceil(2);
             }
         }
+    }
+
+    /// Leave out two short parts at once, as an opening and its closing bracket.
+    fn shrink_by_two(&mut self, text: &[u8], differs: impl Fn(&mut Desk, &[u8]) -> bool) -> Option<Vec<u8>> {
+        if text.len() > 300 {
+            return None;
+        }
+        for first in 0..text.len() {
+            for second in first + 1..text.len() {
+                for (left, right) in [(1, 1), (2, 1), (1, 2), (2, 2), (1, 4), (3, 1)] {
+                    if first + left <= second && second + right <= text.len() {
+                        let candidate = [&text[..first], &text[first + left..second], &text[second + right..]].concat();
+                        if differs(self, &candidate) {
+                            return Some(candidate);
+                        }
+                    }
+                }
+            }
+        }
+        None
     }
 
     /// A text with its number; the comparison's own chances come from both.

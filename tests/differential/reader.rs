@@ -448,9 +448,9 @@ struct Reader<'a> {
     nodes: Vec<Node>,
     /// Literals with an unknown suffix, in the nodes as they stand.
     errors: Vec<Diagnostic>,
-    /// The last `else` whose statement failed, and the nest of the `if` that tried it. An outer `if` comes to the same `else` next,
-    /// at a smaller nest, and would fail in the same way; to read it again there takes time that doubles with each `if`.
-    failed_else: (usize, u32),
+    /// The last `else` whose statement failed. If anything comes to it again, it is the next outer `if`, at a smaller nest, where it
+    /// would fail in the same way. To read it again there would take time that grows with a power of the number of such `if`s.
+    failed_else: usize,
 }
 
 impl Reader<'_> {
@@ -935,7 +935,7 @@ impl Reader<'_> {
         self.take(TokenKind::If)?;
         self.condition()?;
         self.statement()?;
-        if self.peek() != TokenKind::Else || (self.failed_else.0 == self.at && self.nest <= self.failed_else.1) {
+        if self.peek() != TokenKind::Else || self.at == self.failed_else {
             return Ok(2);
         }
         let else_place = self.at;
@@ -946,7 +946,7 @@ impl Reader<'_> {
         if else_block.is_some() {
             return Ok(3);
         }
-        self.failed_else = (else_place, self.nest);
+        self.failed_else = else_place;
         Ok(2)
     }
 
@@ -1122,7 +1122,7 @@ pub fn read(text: &[u8], token_room: usize, node_room: usize) -> Answer {
         nest: 0,
         nodes: Vec::with_capacity(lexed.tokens.len()),
         errors: Vec::new(),
-        failed_else: (usize::MAX, 0),
+        failed_else: usize::MAX,
     };
     loop {
         match reader.attempt(Reader::item) {
