@@ -278,7 +278,8 @@ impl Desk {
                 },
                 _ => (untouched.start, untouched.end, untouched.reason),
             };
-            differ(&answer(&format!("record {} of the list", i as isize - 1)), expected, (record.start, record.end, record.reason))?;
+            let what = answer(&format!("record {} of the list", i as isize - 1));
+            differ(&what, expected, (record.start, record.end, record.reason))?;
         }
         if !self.text.holds(text) {
             return Err(answer("the text was written"));
@@ -464,20 +465,23 @@ impl Desk {
         None
     }
 
-    /// A text with its number; the comparison's own chances come from both.
+    /// A text with its seed and number, from which the rooms come too. False after a difference, which is printed.
     fn compare_text(&mut self, text: &[u8], seed: u64, number: u64) -> bool {
         let Err(first) = self.compare(text, &mut Random::new(!seed, number)) else {
             return true;
         };
         println!("text {number} of seed {seed}: {first}");
         // the rooms hang on the text, so a few are tried for each smaller one
-        let difference = |desk: &mut Desk, text: &[u8]| (0..8).find_map(|i| desk.compare(text, &mut Random::new(!seed, number + i)).err());
+        let difference = |desk: &mut Desk, text: &[u8]| {
+            (0..8).find_map(|again| desk.compare(text, &mut Random::new(!seed, number + again)).err())
+        };
         let smallest = self.shrink(text, |desk, text| difference(desk, text).is_some());
         println!("the smallest text with a difference, {} bytes: {:?}", smallest.len(), String::from_utf8_lossy(&smallest));
-        println!("its bytes: {smallest:?}");
         println!("{}", difference(self, &smallest).unwrap_or(first));
-        let whole = reader::read(&smallest, usize::MAX, usize::MAX);
-        println!("reader, with room for all: {whole:?}");
+        if smallest.len() < 1000 {
+            println!("its bytes: {smallest:?}");
+            println!("the reader by hand, with room for all: {:?}", reader::read(&smallest, usize::MAX, usize::MAX));
+        }
         false
     }
 
@@ -494,7 +498,8 @@ impl Desk {
     fn report(&self, start: Instant) {
         let seen = &self.seen;
         let seconds = start.elapsed().as_secs_f64();
-        println!("{} texts of {} bytes in {seconds:.1} s, {:.0} texts per second", seen.texts, seen.bytes, seen.texts as f64 / seconds);
+        let rate = seen.texts as f64 / seconds;
+        println!("{} texts of {} bytes in {seconds:.1} s, {rate:.0} texts per second", seen.texts, seen.bytes);
         let counts = |counts: &[u64], outcomes: &[usize]| {
             outcomes.iter().map(|&outcome| format!("{outcome}: {}", counts[outcome])).collect::<Vec<_>>().join(", ")
         };
