@@ -176,9 +176,13 @@ struct Desk {
     seen: Seen,
 }
 
-/// A table's size in bytes for so many entries: mostly enough, at times none, one less, or not a whole number of entries.
+/// A table's size in bytes for so many entries: mostly enough, at times none, one less, far too much, or not a whole number of
+/// entries.
 fn room(random: &mut Random, roomy: bool, count: usize, entry: usize) -> usize {
     let exact = count * entry;
+    if random.one_in(2000) {
+        return exact + random.below(70_000 * entry);
+    }
     match random.below(32) {
         0..=4 if roomy => exact,
         0 => 0,
