@@ -152,7 +152,8 @@ struct Program<'a> {
     left: isize,
     nest: usize,
     deepest: usize,
-    /// A careful program says nothing that a reading should refuse; a long one would otherwise hardly ever be accepted.
+    /// A careful program says nothing that a reading should refuse, unless it is too deep. Long ones would otherwise hardly ever
+    /// be accepted.
     careful: bool,
 }
 
@@ -677,7 +678,8 @@ fn leaf(random: &mut Random, sort: Sort) -> &'static str {
     match sort {
         S => random.pick(&["a ;", "", "{ }", "break ;", "return ;", "if ( a ) { }", "if ( a , b ) { }", "let a = 1 ;"]),
         E => random.pick(&[
-            "a", "1", "1", "1u8", "", "( )", "[ ]", "S { }", "f ( )", "a . 0", "- a", "a as T", "a + b", "new T [ 1 ]", "S { a : 1 }",
+            "a", "1", "1", "1u8", "", "( )", "[ ]", "S { }", "f ( )", "a . 0", "- a", "a as T", "a + b", "new T [ 1 ]",
+            "S { a : 1 }",
         ]),
         T => random.pick(&["felt", "felt", "( )", "( , )", "", "[ T ; 3 ]", "T * *", "( T )"]),
         A => random.pick(&["felt", "felt", "( )", "( , )", "", "T * *", "( T )"]),

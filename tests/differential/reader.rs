@@ -448,8 +448,8 @@ struct Reader<'a> {
     nodes: Vec<Node>,
     /// Literals with an unknown suffix, in the nodes as they stand.
     errors: Vec<Diagnostic>,
-    /// The last `else` whose statement failed. If anything comes to it again, it is the next outer `if`, at a smaller nest, where it
-    /// would fail in the same way. To read it again there would take time that grows with a power of the number of such `if`s.
+    /// The last `else` whose statement failed. If anything comes to it again, it is the next outer `if`, at a smaller nest, where
+    /// it would fail in the same way. To read it again there would make the time grow exponentially with the nest.
     failed_else: usize,
 }
 
