@@ -253,6 +253,11 @@ fn long_name(i: usize) -> String {
     format!("{name},\n")
 }
 
+/// Blocks that do not end, each in the `else` of two `if`s: the inner `if` tries the `else` and gives it back, then the outer one does.
+fn failing_else(levels: usize) -> Vec<u8> {
+    format!("fn f() {{ {})", "{ if (a) if (a) x; else ".repeat(levels)).into_bytes()
+}
+
 fn texts(examples: &[String]) -> Vec<(&'static str, Vec<u8>)> {
     let whole = program(examples, LENGTH);
     let with = |end: &[u8]| [whole.as_slice(), end].concat();
@@ -378,5 +383,16 @@ fn main() {
             row += &format!(" {:.1} | {ratio:.2} |", call(rate[1]));
         }
         println!("{row}");
+    }
+
+    println!("\nAn `else` whose statement fails, within such an `else`, and so on; in microseconds a call:\n");
+    println!("| Levels | Bytes | Outcome | ours | Rust |");
+    println!("|--:|--:|--:|--:|--:|");
+    for levels in [2, 4, 6, 8, 10, 12] {
+        let text = failing_else(levels);
+        let mut tables = rooms(&text, true);
+        let (outcome, ..) = compare("failing else", &text, &tables);
+        let (rate, _) = rates(&text, &mut tables, [our_read, their_read], rounds);
+        println!("| {levels} | {} | {outcome} | {:.1} | {:.1} |", text.len(), text.len() as f64 / rate[0], text.len() as f64 / rate[1]);
     }
 }
