@@ -156,8 +156,8 @@ fn their_read_alone(text: &[u8], tables: &mut Tables) -> Said {
 // ---- texts
 
 const KEYWORDS: [&str; 21] = [
-    "as", "const", "else", "false", "fn", "if", "let", "new", "return", "struct", "true", "while", "loop", "for", "in", "break", "continue",
-    "use", "felt", "u32", "bool",
+    "as", "const", "else", "false", "fn", "if", "let", "new", "return", "struct", "true", "while", "loop", "for", "in", "break",
+    "continue", "use", "felt", "u32", "bool",
 ];
 
 /// The text with a number after each of its names.
@@ -246,6 +246,16 @@ fn deep(i: usize) -> String {
     format!("const A_{i} = {opening}1{closing};\n")
 }
 
+fn argument(i: usize) -> String {
+    let end = if i % 8 == 7 { "\n" } else { "" };
+    format!("{}{end}", ["a, ", "b1, ", "count, ", "x_y, "][i % 4])
+}
+
+fn operation(i: usize) -> String {
+    const MARKS: [&str; 8] = ["+", "*", "==", "&", "&&", "-", "/", "||"];
+    format!("a{} {} ", i % 10, MARKS[mixed(i) as usize % MARKS.len()])
+}
+
 fn long_name(i: usize) -> String {
     let letters = b"abcdefghijklmnopqrstuvwxyz_ABCDEFGHIJKLMNOPQRSTUVWXYZ0123456789";
     let size = 20 + mixed(i) as usize % 60;
@@ -265,8 +275,8 @@ fn texts(examples: &[String]) -> Vec<(&'static str, Vec<u8>)> {
         ("program", whole.clone()),
         ("numerals", parts("const A = [\n", "0];\n", numeral)),
         ("deep expressions", parts("", "", deep)),
-        ("long lists", parts("const A = f(\n", "0);\n", |i| format!("{}{}", ["a, ", "b1, ", "count, ", "x_y, "][i % 4], if i % 8 == 7 { "\n" } else { "" }))),
-        ("operators", parts("const A =\n", "0;\n", |i| format!("a{} {} ", i % 10, ["+", "*", "==", "&", "&&", "-", "/", "||"][mixed(i) as usize % 8]))),
+        ("long lists", parts("const A = f(\n", "0);\n", argument)),
+        ("operators", parts("const A =\n", "0;\n", operation)),
         ("comments", parts("", "const A = 1;\n", |i| format!("// Line {i} of a long remark that says nothing about the code.\n"))),
         ("long names", parts("const A = [\n", "a];\n", long_name)),
         ("program, then `@`", with(b"@\n")),
@@ -344,13 +354,15 @@ fn main() {
     let folder = words.next().unwrap_or_else(|| String::from("examples"));
     let rounds = words.next().map_or(41, |word| word.parse().expect("a number of rounds"));
     let mut names: Vec<_> = std::fs::read_dir(&folder).expect("the examples").map(|entry| entry.unwrap().path()).collect();
-    names.retain(|name| name.extension().is_some_and(|end| end == "cm") && !name.file_name().unwrap().to_string_lossy().starts_with("refused"));
+    let is_example = |name: &str| name.ends_with(".cm") && !name.starts_with("refused");
+    names.retain(|name| is_example(&name.file_name().unwrap().to_string_lossy()));
     names.sort();
     let examples: Vec<String> = names.iter().map(|name| std::fs::read_to_string(name).unwrap()).collect();
 
     for exact in [true, false] {
         println!("\n{}\n", if exact { "Tables of the exact size:" } else { "Tables that take every text:" });
-        println!("| Text | Bytes | Tokens | Nodes | Outcome | Lexing: ours | Rust | ratio | without tables | Reading: ours | Rust | ratio | without tables |");
+        print!("| Text | Bytes | Tokens | Nodes | Outcome | Lexing: ours | Rust | ratio | without tables ");
+        println!("| Reading: ours | Rust | ratio | without tables |");
         println!("|---|--:|--:|--:|--:|--:|--:|--:|--:|--:|--:|--:|--:|");
         for (name, text) in texts(&examples) {
             let mut tables = rooms(&text, exact);
@@ -358,10 +370,9 @@ fn main() {
             let tokens = reader::lex(&text, usize::MAX).token_count;
             let (lex, lex_ratio) = rates(&text, &mut tables, [our_lex, their_lex, their_lex_alone], rounds);
             let (read, read_ratio) = rates(&text, &mut tables, [our_read, their_read, their_read_alone], rounds);
-            println!(
-                "| {name} | {} | {tokens} | {nodes} | {outcome} | {:.0} | {:.0} | {lex_ratio:.2} | {:.0} | {:.0} | {:.0} | {read_ratio:.2} | {:.0} |",
-                text.len(), lex[0], lex[1], lex[2], read[0], read[1], read[2]
-            );
+            print!("| {name} | {} | {tokens} | {nodes} | {outcome} ", text.len());
+            print!("| {:.0} | {:.0} | {lex_ratio:.2} | {:.0} ", lex[0], lex[1], lex[2]);
+            println!("| {:.0} | {:.0} | {read_ratio:.2} | {:.0} |", read[0], read[1], read[2]);
         }
     }
 

@@ -15,12 +15,12 @@
 enum { ROOM = 1 << 17 };
 
 static const uint8_t heads[][HEAD] = {
-    {0, 0, 0, 0, 0x00, 0, 1, 5},             // exact room for all
-    {1, 0, 1, 1, 0xFF, 0, 11, 200},          // a byte less for tokens and diagnostics
-    {56, 1, 9, 16, 0x5A, 0, 2, 33},          // a byte less for nodes
-    {6, 6, 6, 6, 0xA5, 0, 255, 255},         // as many entries as bytes
-    {3 + 8 * 15, 59, 3, 3, 0x21, 0, 0, 0},   // an entry more, and odd bytes
-    {2, 2, 2, 2, 0x80, 0, 27, 1},            // none
+    {0, 0, 0, 0, 0x00, 0, 1, 5},           // exact room for all
+    {1, 0, 1, 1, 0xFF, 0, 11, 200},        // a byte less for tokens and diagnostics
+    {56, 1, 9, 16, 0x5A, 0, 2, 33},        // a byte less for nodes
+    {6, 6, 6, 6, 0xA5, 0, 255, 255},       // as many entries as bytes
+    {3 + 8 * 15, 59, 3, 3, 0x21, 0, 0, 0}, // an entry more, and odd bytes
+    {2, 2, 2, 2, 0x80, 0, 27, 1},          // none
 };
 
 int main(int words, char **word) {

@@ -1,7 +1,9 @@
 // What is held of each input:
 //
-// * A reading with room for every text has an outcome that its text allows; its tokens, nodes and diagnostics are well formed (tree.c).
-// * A reading, and a lexing, with tables of any other size has the outcome, the counts and the entries that follow from it: 01's order
+// * A reading with room for every text has an outcome that its text allows; its tokens, nodes and diagnostics are well formed
+// (tree.c).
+// * A reading, and a lexing, with tables of any other size has the outcome, the counts and the entries that follow from it: 01's
+// order
 //   of outcomes, no entry of a refused text, as many diagnostics as there is room for, zero for every byte that is left.
 // * The numeral entry agrees with each numeral of the text, and with the text as a spelling.
 // * Where the reader of tests/differential is linked in, a reading with room for every text has its answer, byte for byte.
@@ -52,7 +54,9 @@ FEATURES uint8_t neighbours_seen[NEIGHBOURS * NEIGHBOURS];
 
 static size_t least(size_t a, size_t b) { return a < b ? a : b; }
 
-static bool is_zero(const uint8_t *bytes, size_t size) { return size == 0 || (bytes[0] == 0 && memcmp(bytes, bytes + 1, size - 1) == 0); }
+static bool is_zero(const uint8_t *bytes, size_t size) {
+    return size == 0 || (bytes[0] == 0 && memcmp(bytes, bytes + 1, size - 1) == 0);
+}
 
 static void hold(bool holds, const char *words) {
     if (!holds)
@@ -65,8 +69,8 @@ static void hold_table(const struct lent *b, const void *entries, size_t size, c
 }
 
 // The reader of tests/differential, where it is linked in.
-__attribute__((weak)) uint32_t reference_read(const void *text, size_t length, void *tokens, size_t tokens_size, void *nodes, size_t nodes_size,
-                                              void *diagnostics, size_t diagnostics_size, size_t *counts);
+__attribute__((weak)) uint32_t reference_read(const void *text, size_t length, void *tokens, size_t tokens_size, void *nodes,
+                                              size_t nodes_size, void *diagnostics, size_t diagnostics_size, size_t *counts);
 
 // ---- the text with room for all: what every other answer follows from
 
@@ -110,9 +114,10 @@ static struct answer call_read(const uint8_t *text, size_t length, struct sizes 
     for (int i = 0; i < 3; i++)
         lend(&count_rooms[i], sizeof(size_t), way, garbage);
     struct answer a = {0};
-    a.outcome = cairo_m_read(text_room.bytes, length, token_room.bytes, sizes.tokens, node_room.bytes, sizes.nodes, diagnostic_room.bytes,
-                             sizes.diagnostics, (size_t *)count_rooms[0].bytes, (size_t *)count_rooms[1].bytes,
-                             (size_t *)count_rooms[2].bytes, (cairo_m_record *)list_room.bytes, sizes.records);
+    a.outcome =
+        cairo_m_read(text_room.bytes, length, token_room.bytes, sizes.tokens, node_room.bytes, sizes.nodes, diagnostic_room.bytes,
+                     sizes.diagnostics, (size_t *)count_rooms[0].bytes, (size_t *)count_rooms[1].bytes,
+                     (size_t *)count_rooms[2].bytes, (cairo_m_record *)list_room.bytes, sizes.records);
     a.token_count = count_at(0);
     a.node_count = count_at(1);
     a.diagnostic_count = count_at(2);
@@ -170,7 +175,8 @@ static struct numeral call_numeral(const uint8_t *spelling, size_t length, enum 
     lend(&count_rooms[0], sizeof n.value, way, garbage);
     for (int i = 0; i < 2; i++)
         lend(&byte_rooms[i], 1, way, garbage);
-    n.outcome = cairo_m_numeral(text_room.bytes, length, (uint64_t *)count_rooms[0].bytes, byte_rooms[0].bytes, byte_rooms[1].bytes);
+    n.outcome =
+        cairo_m_numeral(text_room.bytes, length, (uint64_t *)count_rooms[0].bytes, byte_rooms[0].bytes, byte_rooms[1].bytes);
     memcpy(&n.value, count_rooms[0].bytes, sizeof n.value);
     n.suffix = *byte_rooms[0].bytes;
     n.reason = *byte_rooms[1].bytes;
@@ -189,14 +195,17 @@ static void check_diagnostics(const uint8_t *text, size_t length, uint32_t outco
         at = d->end;
         size_t size = d->end - d->start;
         if (d->reason == CAIRO_M_REASON_CHARACTER) {
-            hold(outcome == CAIRO_M_LEXICAL && character(text + d->start, length - d->start) == size, "a diagnostic is no character");
+            hold(outcome == CAIRO_M_LEXICAL && character(text + d->start, length - d->start) == size,
+                 "a diagnostic is no character");
             continue;
         }
         struct numeral n = call_numeral(text + d->start, size, way, garbage);
         if (outcome == CAIRO_M_LEXICAL)
-            hold(n.outcome == CAIRO_M_LEXICAL && n.reason == d->reason && n.value == 0 && n.suffix == 0, "a diagnostic is no wrong numeral");
+            hold(n.outcome == CAIRO_M_LEXICAL && n.reason == d->reason && n.value == 0 && n.suffix == 0,
+                 "a diagnostic is no wrong numeral");
         else
-            hold(d->reason == CAIRO_M_REASON_SUFFIX && n.outcome == 0 && n.suffix == CAIRO_M_SUFFIX_OTHER, "a diagnostic is no suffix");
+            hold(d->reason == CAIRO_M_REASON_SUFFIX && n.outcome == 0 && n.suffix == CAIRO_M_SUFFIX_OTHER,
+                 "a diagnostic is no suffix");
     }
 }
 
@@ -264,13 +273,15 @@ static void compare_with_reference(const uint8_t *text, size_t length) {
     static uint8_t tokens[TABLE_ROOM], nodes[TABLE_ROOM], diagnostics[TABLE_ROOM];
     struct sizes sizes = sizes_for_all(length);
     size_t counts[3];
-    uint32_t outcome = reference_read(text, length, tokens, sizes.tokens, nodes, sizes.nodes, diagnostics, sizes.diagnostics, counts);
+    uint32_t outcome =
+        reference_read(text, length, tokens, sizes.tokens, nodes, sizes.nodes, diagnostics, sizes.diagnostics, counts);
     hold(outcome == whole.read.outcome, "the reference has another outcome");
     hold(counts[0] == whole.read.token_count && counts[1] == whole.read.node_count && counts[2] == whole.read.diagnostic_count,
          "the reference has other counts");
     hold(memcmp(tokens, whole.tokens, counts[0] * sizeof(cairo_m_token)) == 0, "the reference has other tokens");
     hold(memcmp(nodes, whole.nodes, counts[1] * sizeof(cairo_m_node)) == 0, "the reference has other nodes");
-    hold(memcmp(diagnostics, whole.diagnostics, counts[2] * sizeof(cairo_m_diagnostic)) == 0, "the reference has other diagnostics");
+    hold(memcmp(diagnostics, whole.diagnostics, counts[2] * sizeof(cairo_m_diagnostic)) == 0,
+         "the reference has other diagnostics");
 }
 
 // Reads with room for all and keeps the tables.
@@ -293,7 +304,8 @@ static void read_whole(const uint8_t *text, size_t length, enum way way, uint8_t
     hold_table(&token_room, whole.tokens, whole.read.outcome == 0 ? token_bytes : 0, "reading has another token table than lexing");
     if (whole.lexed.outcome == 0)
         memcpy(whole.diagnostics, diagnostic_room.bytes, whole.read.diagnostic_count * sizeof(cairo_m_diagnostic));
-    hold(whole.lexed.outcome == 0 || whole.lexed.diagnostic_count == whole.read.diagnostic_count, "reading and lexing count other errors");
+    hold(whole.lexed.outcome == 0 || whole.lexed.diagnostic_count == whole.read.diagnostic_count,
+         "reading and lexing count other errors");
     hold_table(&diagnostic_room, whole.diagnostics, whole.read.diagnostic_count * sizeof(cairo_m_diagnostic),
                "reading has another diagnostic table than lexing");
     memcpy(whole.nodes, node_room.bytes, whole.read.node_count * sizeof(cairo_m_node));
@@ -341,8 +353,10 @@ static void read_sized(const uint8_t *text, size_t length, struct sizes sizes, e
              said.diagnostic_count == owed.diagnostic_count,
          "reading with other tables has another answer");
     bool accepted = owed.outcome == 0;
-    hold_table(&token_room, whole.tokens, accepted ? owed.token_count * sizeof(cairo_m_token) : 0, "reading with other tables has other tokens");
-    hold_table(&node_room, whole.nodes, accepted ? owed.node_count * sizeof(cairo_m_node) : 0, "reading with other tables has other nodes");
+    hold_table(&token_room, whole.tokens, accepted ? owed.token_count * sizeof(cairo_m_token) : 0,
+               "reading with other tables has other tokens");
+    hold_table(&node_room, whole.nodes, accepted ? owed.node_count * sizeof(cairo_m_node) : 0,
+               "reading with other tables has other nodes");
     hold_table(&diagnostic_room, whole.diagnostics, diagnostics * sizeof(cairo_m_diagnostic),
                "reading with other tables has other diagnostics");
     for (size_t i = 0; i < sizes.records; i++) {
@@ -409,7 +423,8 @@ static void check_refusal(uint32_t outcome, const cairo_m_diagnostic *diagnostic
         take(",");
         uint64_t reason = take_number();
         take("]");
-        hold(start == diagnostics[i].start && end == diagnostics[i].end && reason == diagnostics[i].reason, "a listing has another number");
+        hold(start == diagnostics[i].start && end == diagnostics[i].end && reason == diagnostics[i].reason,
+             "a listing has another number");
     }
     take("]}");
 }
@@ -434,7 +449,8 @@ static size_t list_in(struct listed l, size_t room, enum way way, uint8_t garbag
     *outcome = l.of_nodes ? cairo_m_list(table->bytes, l.size, out_room.bytes, room, size)
                           : cairo_m_list_refused(l.outcome, table->bytes, l.size, out_room.bytes, room, size);
     size_t said = count_at(0);
-    hold(said <= room && (*outcome == 0 || said == 0) && is_zero(out_room.bytes + said, room - said), "a listing is not zero after its text");
+    hold(said <= room && (*outcome == 0 || said == 0) && is_zero(out_room.bytes + said, room - said),
+         "a listing is not zero after its text");
     memcpy(copy, out_room.bytes, said);
     copy[said] = '\0';
     give_back(&count_rooms[0]);
@@ -502,7 +518,8 @@ static size_t choose_size(uint8_t chosen, size_t count, size_t entry, size_t len
 
 // The text of an input, for some heads again and again up to some length.
 static size_t take_text(const uint8_t *input, size_t size, uint8_t chosen, uint8_t *text) {
-    static const size_t lengths[8] = {1000, 4000, 16000, 40000, CAIRO_M_LONGEST_TEXT - 1, CAIRO_M_LONGEST_TEXT, CAIRO_M_LONGEST_TEXT + 1, TEXT_ROOM};
+    static const size_t lengths[8] = {
+        1000, 4000, 16000, 40000, CAIRO_M_LONGEST_TEXT - 1, CAIRO_M_LONGEST_TEXT, CAIRO_M_LONGEST_TEXT + 1, TEXT_ROOM};
     if (size == 0 || chosen < 0xF8) {
         size = least(size, TEXT_ROOM);
         memcpy(text, input, size);
@@ -529,9 +546,11 @@ static void try_at(const uint8_t *head, const uint8_t *text, size_t length, stru
 
     // the tree or the refusal, and the bytes of the text as tables
     if (whole.read.outcome == 0)
-        list((struct listed){(const uint8_t *)whole.nodes, whole.read.node_count * sizeof(cairo_m_node), true, 0}, head[6], way, garbage);
+        list((struct listed){(const uint8_t *)whole.nodes, whole.read.node_count * sizeof(cairo_m_node), true, 0}, head[6], way,
+             garbage);
     else
-        list((struct listed){(const uint8_t *)whole.diagnostics, whole.read.diagnostic_count * sizeof(cairo_m_diagnostic), false, whole.read.outcome},
+        list((struct listed){(const uint8_t *)whole.diagnostics, whole.read.diagnostic_count * sizeof(cairo_m_diagnostic), false,
+                             whole.read.outcome},
              head[6], way, garbage);
     list((struct listed){text, length, true, 0}, head[7], way, garbage);
     uint32_t outcome;

@@ -2,9 +2,9 @@
 //
 //     stack [TEXT..] [-inputs LIST]
 //
-// Each construct that repeats or nests is read at about 1 KB and at about 64 KB, then every text and every input that LIST names (names
-// end with a zero byte; an input is 8 bytes of head and a text). A call is made on a stack of its own that is full of one byte before
-// it; what is no longer that byte after it was used. What an empty function leaves there is taken off.
+// Each construct that repeats or nests is read at about 1 KB and at about 64 KB, then every text and every input that LIST names
+// (names end with a zero byte; an input is 8 bytes of head and a text). A call is made on a stack of its own that is full of one
+// byte before it; what is no longer that byte after it was used. What an empty function leaves there is taken off.
 #define _GNU_SOURCE
 #include <stdio.h>
 #include <stdlib.h>

@@ -120,10 +120,11 @@ void check_tokens(const uint8_t *text, size_t length, const cairo_m_token *token
 // ---- nodes
 
 const char *const node_names[NODE_KINDS + 1] = {
-    "",           "Name",   "Named",  "Pointer", "TypeTuple",     "FixedArray", "Count",      "Literal",  "LiteralFelt", "LiteralU32", "Bool",
-    "Identifier", "Unary",  "Binary", "Call",    "Member",        "Index",      "StructLiteral", "Tuple", "TupleIndex",  "Array",      "ArrayRepeat",
-    "Cast",       "New",    "Paren",  "PatternTuple", "Let",      "Const",      "Assign",     "Return",   "If",          "ExprStmt",   "Block",
-    "Loop",       "While",  "For",    "Break",   "Continue",      "Param",      "Function",   "StructDef", "UseSingle",  "UseList"};
+    "",           "Name",       "Named",      "Pointer",     "TypeTuple", "FixedArray", "Count",  "Literal",      "LiteralFelt",
+    "LiteralU32", "Bool",       "Identifier", "Unary",       "Binary",    "Call",       "Member", "Index",        "StructLiteral",
+    "Tuple",      "TupleIndex", "Array",      "ArrayRepeat", "Cast",      "New",        "Paren",  "PatternTuple", "Let",
+    "Const",      "Assign",     "Return",     "If",          "ExprStmt",  "Block",      "Loop",   "While",        "For",
+    "Break",      "Continue",   "Param",      "Function",    "StructDef", "UseSingle",  "UseList"};
 
 // A sort of nodes, as a letter: n Name, c Count, d Named, p Param, T type, E expression, P pattern, S statement, I item,
 // f a for's init, s its step.
@@ -144,8 +145,8 @@ static bool is_of(char sort, uint8_t kind) {
     }
 }
 
-// The sorts of a kind's children in order, `?` after one that may be missing, `*` before a tail that repeats; `#` is as many Params or
-// Names as the value says. And the largest value.
+// The sorts of a kind's children in order, `?` after one that may be missing, `*` before a tail that repeats; `#` is as many Params
+// or Names as the value says. And the largest value.
 static const struct {
     const char *children;
     uint64_t most;
@@ -234,8 +235,8 @@ static bool has_shape(const cairo_m_node *nodes, const size_t *children, const c
 
 static bool has_no_span(const cairo_m_node *n) { return n->start == 0 && n->end == 0; }
 
-static void check_span(const cairo_m_node *nodes, const size_t *children, const cairo_m_node *n, size_t length, const uint8_t *starts,
-                       const uint8_t *ends) {
+static void check_span(const cairo_m_node *nodes, const size_t *children, const cairo_m_node *n, size_t length,
+                       const uint8_t *starts, const uint8_t *ends) {
     if (n->kind == CAIRO_M_NODE_PARAM || n->kind == CAIRO_M_NODE_PATTERN_TUPLE) {
         if (!has_no_span(n))
             fail("a parameter or a tuple pattern has a span");

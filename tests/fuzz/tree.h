@@ -15,8 +15,8 @@ extern uint8_t pairs_seen[(NODE_KINDS + 1) * (NODE_KINDS + 1)];
 // Tokens follow each other in the text, nothing but what is skipped stands between them, and each is spelled as its kind is.
 void check_tokens(const uint8_t *text, size_t length, const cairo_m_token *tokens, size_t count);
 
-// The nodes are a forest of items: the children of a node are whole trees right before it, of the kinds and the number that its kind
-// has. Spans begin and end with tokens, children's lie in their parent's and in order.
+// The nodes are a forest of items: the children of a node are whole trees right before it, of the kinds and the number that its
+// kind has. Spans begin and end with tokens, children's lie in their parent's and in order.
 void check_nodes(size_t length, const cairo_m_token *tokens, size_t token_count, const cairo_m_node *nodes, size_t count);
 
 #endif
