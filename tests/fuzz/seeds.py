@@ -9,6 +9,8 @@ import sys
 
 ROOT = pathlib.Path(__file__).resolve().parents[2]
 LONGEST = 4000
+# read again and again up to each of the lengths that a head can choose
+REPEATED = [b"const A = 1;\n", b"fn f() { a = 1u8; } ", b"@ ", b"-", bytes([1, 0, 5, 0, 9, 0, 1, 0]) + bytes([255] * 8)]
 
 
 def spelled(line, bases):
@@ -60,6 +62,10 @@ def main():
         head = bytes([i * 7 % 256, i * 11 % 256, i * 13 % 256, i * 17 % 256, i * 29 % 256, 0, i * 5 % 256, i * 3 % 256])
         (folder / f"seed{i:05}").write_bytes(head + text)
         count += 1
+    for i, text in enumerate(REPEATED):
+        for length in range(8):
+            (folder / f"repeated{i}{length}").write_bytes(bytes([length * 9, i * 8, 1, 0, 90 + i, 0xF8 + length, 3, i]) + text)
+            count += 1
     print(f"seeds: {count}")
 
 
