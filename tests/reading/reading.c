@@ -9,6 +9,7 @@
 // All calls are made on one small stack; how much of it was used is printed for each part of the cases, and does not grow with a text.
 #define _GNU_SOURCE
 #include <pthread.h>
+#include <signal.h>
 #include <stdbool.h>
 #include <stdio.h>
 #include <stdlib.h>
@@ -430,6 +431,20 @@ static void mark_stack(void) {
     memset(stack, UNUSED, (size_t)((uintptr_t)&here - (uintptr_t)stack) - 4096);
 }
 
+// A page around a buffer was touched, or the stack was not enough.
+static void fault(int number) {
+    dprintf(STDERR_FILENO, "reading: line %zu: signal %d, memory that was not lent\n", line_number, number);
+    _exit(1);
+}
+
+static void catch_faults(void) {
+    static uint8_t other_stack[1 << 16];
+    stack_t other = {.ss_sp = other_stack, .ss_size = sizeof other_stack};
+    struct sigaction action = {.sa_handler = fault, .sa_flags = SA_ONSTACK};
+    if (sigaltstack(&other, NULL) != 0 || sigaction(SIGSEGV, &action, NULL) != 0 || sigaction(SIGBUS, &action, NULL) != 0)
+        stop("no signal handler");
+}
+
 static const char *cases_name, *owed_name;
 static size_t only, differing;
 
@@ -453,6 +468,7 @@ static void *run(void *unused) {
     char *line = NULL, *wanted = NULL, title[100] = "cases";
     size_t space = 0, wanted_space = 0, count = 0, all = 0;
     mark_stack();
+    catch_faults();
     while (getline(&line, &space, cases) > 0) {
         line_number++;
         if (line[0] == '#') {
