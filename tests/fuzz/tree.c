@@ -249,8 +249,9 @@ static void check_span(const cairo_m_node *nodes, const size_t *children, const 
     if (n->kind == CAIRO_M_NODE_CALL && n->children == 1) {
         if (n->end != nodes[children[0]].end + 2)
             fail("a call without arguments does not end at its callee's end + 2");
-    } else if (!ends[n->end]) {
-        fail("a node ends with no token");
+    } else if (!ends[n->end] && (n->children == 0 || n->end != nodes[children[n->children - 1]].end)) {
+        // such a call may end within a blank, and a node that ends with its last operand then does so too, as `-a[0] ()`
+        fail("a node ends with no token and not with its last child");
     }
     size_t at = n->start;
     for (size_t i = 0; i < n->children; i++) {

@@ -16,7 +16,7 @@ extern uint8_t pairs_seen[(NODE_KINDS + 1) * (NODE_KINDS + 1)];
 void check_tokens(const uint8_t *text, size_t length, const cairo_m_token *tokens, size_t count);
 
 // The nodes are a forest of items: the children of a node are whole trees right before it, of the kinds and the number that its
-// kind has. Spans begin and end with tokens, children's lie in their parent's and in order.
+// kind has. Spans begin with tokens and end with tokens or with the last child's, children's lie in their parent's and in order.
 void check_nodes(size_t length, const cairo_m_token *tokens, size_t token_count, const cairo_m_node *nodes, size_t count);
 
 #endif
