@@ -2,12 +2,14 @@
 use mathlib.Core.Path.{_≡_, refl, sym, ap, ap₂, subst, _∙_}
 use mathlib.Core.List.{List, [], _∷_, _++_, append-assoc, append-nil}
 use Prim.Native.Nat.{ℕ, zero, suc, _+_, _≤_, _<_, zero-le}
+use native.Mathlib.Nat.{add-zero}
 use native.Mathlib.Omega.{arith}
 use lib.Dec.{lit<}
 use lib.ListN.{length, take, drop, length-append, length-drop, drop-of-length-le}
 use lib.Seq.{drop-drop}
 use Rattle.tables.specs.Tables.{Token, Diagnostic, encodeToken, encodeDiagnostic, laid, stored, kept, cleared}
 use Rattle.tables.proofs.Laws.{laid-length, laid-none, laid-more, laid-kept, token-size, diagnostic-size, cleared-all}
+use Rattle.patterns.specs.Bytes.{in-set, white, run}
 use Rattle.utf8.specs.Utf8.{Rest}
 use Rattle.utf8.proofs.Laws.{rest-none, rest-char, rest-more, rest-end}
 use Rattle.numeral.specs.Numeral.{numeralOf}
@@ -22,6 +24,7 @@ use Rattle.lexer.specs.declared.lexing.Item as declared
 use Rattle.lexer.specs.declared.lexing.Item.the-variants as Item
 use Rattle.lexer.specs.declared.lexing.Lexed.the-variants as Lexed
 use Rattle.lexer.proofs.Determined.{step-some}
+use Rattle.lexer.proofs.Scans.{found-white}
 
 -- ---- one step
 module _ {s : List ℕ} {f : Found} (i : Scanned s f) where
@@ -160,6 +163,10 @@ module _ {text a₀ b₀ : List ℕ} where
               error-table = g .error-table;
               goes-on = λ us gs l. g .goes-on us gs (lexes-on st e us gs l);
             }
+
+    pub going-white : {s : List ℕ} {n : ℕ} → n ≡ run (in-set white) s → s ≡ drop at text → Going text a₀ b₀ a b (at + n) nt nd
+    going-white {n = zero} e q = subst (λ (m : ℕ). Going text a₀ b₀ a b m nt nd) (sym (add-zero at)) g
+    going-white {n = suc n} e q = going-skipped (skip-step (found-white e (omega arith)) refl) q refl
 
     pub going-token : {s a′ : List ℕ} {i : declared.Item} {n k x v : ℕ} → Stepped s i → s ≡ drop at text → i ≡ Item.Token n k x v
         → a′ ≡ stored 16 a nt (encodeToken (record { kind = k; suffix = x; start = at; end = at + n; value = v })) → Going text a₀ b₀ a′ b (at + n) (nt + 1) nd

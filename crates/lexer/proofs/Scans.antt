@@ -1,11 +1,12 @@
 -- The scanners' loops, and what the scanner finds by the class of the first byte. Assumes nothing.
 use mathlib.Core.Path.{_≡_, refl, sym, ap, subst, _∙_}
-use mathlib.Core.Bool.{Bool, true, false, not, false≢true}
+use mathlib.Core.Bool.{Bool, true, false, cond, not, false≢true}
 use mathlib.Core.Logic.{_⊎_, inl, inr, ⊎-elim}
 use mathlib.Core.List.{List, [], _∷_}
-use Prim.Native.Nat.{ℕ, zero, suc, _+_, _≤_, _<_}
+use Prim.Native.Nat.{ℕ, zero, suc, _+_, _-_, _≤_, _<_}
 use native.Mathlib.Nat.{add-zero}
 use native.Mathlib.Omega.{arith}
+use native.Mathlib.Decide.{decLt}
 use lib.Dec.{T, leb, ltb, leb→le}
 use lib.ListN.{length, take, drop, getD, length-take, length-drop, List·getD-eq-default}
 use lib.Seq.{getD-drop, take-all}
@@ -21,11 +22,30 @@ use Rattle.tables.specs.TokenKinds.{IDENT}
 use Rattle.lexer.specs.Kinds.{texts, fixedOf}
 use Rattle.lexer.specs.Classes.{classOf, Table}
 use Rattle.lexer.specs.Tokens.{Best, Stuck}
-use Rattle.lexer.specs.Scans.{KindIs, kind, no-kind, not-newline, LineIs, line, broken, Scanned}
+use Rattle.lexer.specs.Scans.{KindIs, kind, no-kind, not-newline, Still, Plain, LineIs, line, broken, Scanned}
 use Rattle.lexer.specs.declared.scan.Found.{Found}
 use Rattle.lexer.specs.declared.scan.Found.the-variants as Found
 use Rattle.lexer.proofs.Texts.{white-is, letter-is, digit-is, word-is, mark-is, next-is, kind-law, fixed-kind}
 use Rattle.lexer.proofs.Leads.{best-white, best-comment, best-numeral, best-name, best-mark, stuck}
+
+-- ---- a run's first byte, and the byte after it
+run-first : (f : ℕ → Bool) (s : List ℕ) → 1 ≤ run f s → (0 < length s) × (f (getD s 0 0) ≡ true)
+unfolding run
+run-first f [] h = absurd (omega arith)
+run-first f (b ∷ s) h = (omega arith, go (f b) refl h)
+  where
+    go : (x : Bool) → f b ≡ x → 1 ≤ cond x (suc (run f s)) 0 → f b ≡ true
+    go true e k = e
+    go false e k = absurd (omega arith)
+
+run-next : (f : ℕ → Bool) (s : List ℕ) → run f s < length s → f (getD s (run f s) 0) ≡ false
+unfolding run
+run-next f [] h = absurd (omega arith)
+run-next f (b ∷ s) h = go (f b) refl h (λ k. run-next f s k)
+  where
+    go : (x : Bool) → f b ≡ x → cond x (suc (run f s)) 0 < suc (length s) → (run f s < length s → f (getD s (run f s) 0) ≡ false) → f (getD (b ∷ s) (cond x (suc (run f s)) 0) 0) ≡ false
+    go true e k r = r (omega arith)
+    go false e k r = e
 
 -- ---- runs of a class: the table's entry at the byte at i
 module _ {t l : List ℕ} {i : ℕ} (r : Table classOf l) (h : i < length t) (small : getD t i 0 < 256) where
@@ -43,6 +63,31 @@ module _ {t l : List ℕ} {i : ℕ} (r : Table classOf l) (h : i < length t) (sm
 
   pub word-high : Passed (in-set word) t i → 3 < getD l (getD t i 0) 0 → i ≡ run (in-set word) t
   word-high p a = passed-stop p h (word-is _ _ small (r .rule _ small) ∙ rw (le-leb 2 (getD l (getD t i 0) 0) (omega arith), lt-leb (getD l (getD t i 0) 0) 3 a))
+
+-- ---- sixteen bytes at a time
+module _ {x : Bool} {b : ℕ} where
+  pub still-not : Still x b false
+  still-not = record { so = λ e. absurd (false≢true e) }
+
+  pub still-yes : x ≡ true → (b ≡ 10 → ⊥) → Still x b (ltb b 0x80)
+  still-yes e n = record { so = λ a. (e, ltb-true b 0x80 a, n) }
+
+module _ {s : List ℕ} {i : ℕ} where
+  pub plain-none : {r : Bool} → Plain s i 0 r
+  plain-none = record { each = λ e j h. absurd (omega arith) }
+
+  pub plain-least : {n m : ℕ} {r : Bool} → Plain s i n r → m ≤ n → Plain s i m r
+  plain-least p h = record { each = λ e j k. p .each e j (omega arith) }
+
+  pub plain-more : {n : ℕ} {x r : Bool} → Plain s i n x → Still x (getD s (i + n) 0) r → Plain s i (n + 1) r
+  plain-more {n} p q =
+      record {
+        each = λ e j h.
+            elim (decLt j n) [
+              | yes k ↦ p .each (q .so e .0) j k
+              | no k ↦ let u : n ≡ j = omega arith in subst (λ (m : ℕ). (getD s (i + m) 0 < 0x80) × (getD s (i + m) 0 ≡ 10 → ⊥)) u (q .so e .1, q .so e .2)
+            ];
+      }
 
 -- ---- a comment's loop
 pub record Line (t : List ℕ) (i : ℕ) : Type 0 where
@@ -74,6 +119,16 @@ module _ {t : List ℕ} where
 
   pub line-ascii : {i : ℕ} → Line t i → i < length t → (getD t i 0 ≡ 10 → ⊥) → getD t i 0 < 0x80 → Line t (i + 1)
   line-ascii g h n a = record { passed = passed-more (g .passed) h (no-newline _ n); rest = next-ascii (g .rest) h a }
+
+  line-many : (n : ℕ) {i : ℕ} → Line t i → i + n ≤ length t → ((j : ℕ) → j < n → (getD t (i + j) 0 < 0x80) × (getD t (i + j) 0 ≡ 10 → ⊥)) → Line t (i + n)
+  line-many zero {i} g h f = subst (Line t) (sym (add-zero i)) g
+  line-many (suc n) {i} g h f =
+      let e : (i + n) + 1 ≡ i + suc n = omega arith in
+      let k = f n (omega arith) in
+      subst (Line t) e (line-ascii (line-many n g (omega arith) (λ j l. f j (omega arith))) (omega arith) (k .1) (k .0))
+
+  pub line-plain : {i : ℕ} {r : Bool} → Line t i → 16 ≤ length t - i → Plain t i 16 r → r ≡ true → Line t (i + 16)
+  line-plain g h p e = line-many 16 g (omega arith) (p .each e)
 
   pub line-char : {i n : ℕ} → Line t i → i < length t → 0x80 ≤ getD t i 0 → {s : List ℕ} → FirstChar s n → s ≡ drop i t → (n ≡ 0 → ⊥) → Line t (i + n)
   line-char g h a (nothing e f) r z = absurd (z e)
@@ -145,6 +200,16 @@ take-two : (s : List ℕ) → 1 < length s → take 2 s ≡ getD s 0 0 ∷ getD 
 take-two [] h = absurd (omega arith)
 take-two (a ∷ s) h = ap (λ (l : List ℕ). a ∷ l) (take-one s (omega arith))
 
+pub found-white : {s : List ℕ} {n : ℕ} → n ≡ run (in-set white) s → 1 ≤ n → Scanned s (Found.Skip n)
+found-white {s} e h =
+    let f = run-first (in-set white) s (omega arith) in
+    subst (λ (m : ℕ). Scanned s (Found.Skip m)) (sym e) (Scanned.skip (best-white s (f .0) (f .1)) (white-rest s))
+
+pub white-past : {s : List ℕ} {n : ℕ} (t : List ℕ) (i : ℕ) → n ≡ run (in-set white) s → s ≡ drop i t → i + n < length t → in-set white (getD (drop (i + n) t) 0 0) ≡ false
+white-past {s} {n} t i e q h =
+    let u = run-next (in-set white) s (omega (arith, ap length q, length-drop i t)) in
+    rw (getD-drop, add-zero) (rw (sym e, q, getD-drop) at u)
+
 pub record Begun (s : List ℕ) (c : ℕ) : Type 0 where
   pub some : 0 < length s
   pub small : getD s 0 0 < 256
@@ -161,9 +226,8 @@ module _ {s : List ℕ} {c : ℕ} (g : Begun s c) where
       least (kind a b d) = a
       least (no-kind a b) = omega arith
 
-  pub found-white : {n : ℕ} → c ≡ 1 → n ≡ run (in-set white) s → Scanned s (Found.Skip n)
-  found-white q e =
-      subst (λ (m : ℕ). Scanned s (Found.Skip m)) (sym e) (Scanned.skip (best-white s (g .some) (white-is _ _ (g .small) (g .class-is) ∙ eq-eqb c 1 q)) (white-rest s))
+  pub not-white : in-set white (getD s 0 0) ≡ false → c ≡ 1 → ⊥
+  not-white w q = false≢true (sym w ∙ white-is _ _ (g .small) (g .class-is) ∙ eq-eqb c 1 q)
 
   pub found-numeral : {n : ℕ} → c ≡ 3 → n ≡ run (in-set word) s → Scanned s (Found.Number n)
   found-numeral q e =

@@ -1,8 +1,8 @@
 -- What the scanners answer. Assumes nothing.
 use mathlib.Core.Path.{_≡_}
-use mathlib.Core.Bool.{Bool, not}
+use mathlib.Core.Bool.{Bool, true, not}
 use mathlib.Core.List.{List, [], _∷_}
-use Prim.Native.Nat.{ℕ, _≤_, _<_}
+use Prim.Native.Nat.{ℕ, _+_, _≤_, _<_}
 use lib.ListN.{length, getD}
 use Rattle.patterns.specs.Bytes.{in-set, run}
 use Rattle.utf8.specs.Utf8.{Utf8, Begins, Rest}
@@ -23,6 +23,14 @@ pub data KindIs (a e none : ℕ) (w : List ℕ) (r : ℕ) : Type 0 where
 -- how far a comment goes: to the end, to an LF, or to a byte that begins no character
 abbrev pub not-newline : ℕ → Bool
 not-newline b = not (in-set (("\n", "\n") ∷ []) b)
+
+-- if r, then x, and b is an ASCII character other than LF
+pub record Still (x : Bool) (b : ℕ) (r : Bool) : Type 0 where
+  pub so : r ≡ true → (x ≡ true) × (b < 0x80) × (b ≡ 10 → ⊥)
+
+-- if r, then the n bytes from i on are ASCII characters other than LF
+pub record Plain (s : List ℕ) (i n : ℕ) (r : Bool) : Type 0 where
+  pub each : r ≡ true → (j : ℕ) → j < n → (getD s (i + j) 0 < 0x80) × (getD s (i + j) 0 ≡ 10 → ⊥)
 
 -- how far a comment's line goes: to its end, or to a byte where the text is not UTF-8
 pub data LineIs (s : List ℕ) (n : ℕ) : Type 0 where

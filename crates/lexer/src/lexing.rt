@@ -4,6 +4,7 @@ use super::class::nexts;
 use super::class::pairs;
 use super::scan::Found;
 use super::scan::scan;
+use super::scan::white_run;
 use numeral::NumberLiteral;
 use numeral::parse_number_literal;
 use tables::clear_from;
@@ -13,8 +14,10 @@ use tables::token::keep_tokens;
 use tables::token::put_token;
 use tables::token_type::LITERAL_NUMBER;
 ghost use mathlib.Core.Path.{_≡_};
+ghost use mathlib.Core.Bool.{false};
 ghost use Prim.Native.Nat.{_<_};
-ghost use lib.ListN.{length};
+ghost use lib.ListN.{length, getD};
+ghost use Rattle.patterns.specs.Bytes.{in-set, white};
 ghost use Rattle.lexer.specs.Classes.{classOf, nextOf, pairOf, Table};
 ghost use Rattle.lexer.specs.Scans.{Stepped};
 ghost use Rattle.lexer.specs.Answers.{LexedIs};
@@ -49,6 +52,7 @@ pub enum Lexed {
 
 fn step(t: &[u8], classes: &[u8; 256], nexts: &[u8; 256], pairs: &[u8; 256]) -> Item
     requires { ⌜ 0 < length (now t) ⌝ }
+    requires { ⌜ in-set white (getD (now t) 0 0) ≡ false ⌝ }
     requires { ⌜ Table classOf (now classes) ⌝ }
     requires { ⌜ Table nextOf (now nexts) ⌝ }
     requires { ⌜ Table pairOf (now pairs) ⌝ }
@@ -106,40 +110,45 @@ pub fn lex(text: &[u8], tokens: &mut [u8], diagnostics: &mut [u8]) -> Lexed
     let mut token_count: usize = 0;
     let mut error_count: usize = 0;
     while at < text.len() {
-        let item = step(&text[at..], &classes, &nexts, &pairs);
-        match item {
-            Item::Skipped(size) => {
-                at += size;
-            }
-            Item::Token {
-                size,
-                kind,
-                suffix,
-                value,
-            } => {
-                let end = at + size;
-                put_token(
-                    tokens,
-                    token_count,
+        let start = at + white_run(&text[at..], &classes);
+        if start == text.len() {
+            at = start;
+        } else {
+            let item = step(&text[start..], &classes, &nexts, &pairs);
+            match item {
+                Item::Skipped(size) => {
+                    at = start + size;
+                }
+                Item::Token {
+                    size,
                     kind,
                     suffix,
-                    at as u16,
-                    end as u16,
                     value,
-                );
-                token_count += 1;
-                at = end;
-            }
-            Item::Error { size, reason } => {
-                let end = at + size;
-                put_diagnostic(diagnostics, error_count, at as u16, end as u16, reason);
-                error_count += 1;
-                at = end;
-            }
-            Item::NotUtf8 => {
-                clear_from(tokens, 0);
-                clear_from(diagnostics, 0);
-                return Lexed::Encoding;
+                } => {
+                    let end = start + size;
+                    put_token(
+                        tokens,
+                        token_count,
+                        kind,
+                        suffix,
+                        start as u16,
+                        end as u16,
+                        value,
+                    );
+                    token_count += 1;
+                    at = end;
+                }
+                Item::Error { size, reason } => {
+                    let end = start + size;
+                    put_diagnostic(diagnostics, error_count, start as u16, end as u16, reason);
+                    error_count += 1;
+                    at = end;
+                }
+                Item::NotUtf8 => {
+                    clear_from(tokens, 0);
+                    clear_from(diagnostics, 0);
+                    return Lexed::Encoding;
+                }
             }
         }
     }

@@ -7,13 +7,14 @@ use patterns::is_word;
 use tables::token_type;
 use utf8::char_len;
 ghost use mathlib.Core.Path.{_≡_};
+ghost use mathlib.Core.Bool.{false};
 ghost use mathlib.Core.List.{[], _∷_};
-ghost use Prim.Native.Nat.{_<_};
-ghost use lib.ListN.{length};
+ghost use Prim.Native.Nat.{_+_, _≤_, _<_};
+ghost use lib.ListN.{length, getD};
 ghost use Rattle.patterns.specs.Bytes.{in-set, white, word, run};
 ghost use Rattle.lexer.specs.Classes.{classOf, nextOf, pairOf, Table};
 ghost use Rattle.tables.specs.TokenKinds.{IDENT};
-ghost use Rattle.lexer.specs.Scans.{KindIs, LineIs, Scanned};
+ghost use Rattle.lexer.specs.Scans.{KindIs, Still, Plain, LineIs, Scanned};
 ghost use Rattle.lexer.specs.Tokens.{Stuck};
 
 // What stands at the start of a text, and its size.
@@ -26,7 +27,7 @@ pub enum Found {
 }
 
 // How many bytes from the start are white space.
-fn white_run(t: &[u8], classes: &[u8; 256]) -> usize
+pub(crate) fn white_run(t: &[u8], classes: &[u8; 256]) -> usize
     requires { ⌜ Table classOf (now classes) ⌝ }
     ensures { λ r. ⌜ r ≡ run (in-set white) (now (t .entry)) ⌝ }
 {
@@ -59,11 +60,45 @@ fn word_run(t: &[u8], classes: &[u8; 256]) -> usize
     i
 }
 
+// Still all ASCII characters other than LF, with one byte more.
+fn still(plain: bool, b: u8) -> bool
+    ensures { λ r. ⌜ Still plain b r ⌝ }
+{
+    if plain {
+        if b != b'\n' {
+            return b < 0x80;
+        }
+        return false;
+    }
+    false
+}
+
+// The 16 bytes from i on are ASCII characters other than LF: compiled, one comparison of vectors.
+fn plain_at(t: &[u8], i: usize) -> bool
+    requires { ⌜ i + 16 ≤ length (now t) ⌝ }
+    ensures { λ r. ⌜ Plain (now (t .entry)) i 16 r ⌝ }
+{
+    let mut plain = true;
+    let mut j = 0;
+    while j < 16 {
+        plain = still(plain, t[i + j]);
+        j += 1;
+    }
+    plain
+}
+
 // How many bytes stand before the first LF, or before a byte that begins no character.
 fn line_run(t: &[u8]) -> usize
     ensures { λ r. ⌜ LineIs (now (t .entry)) r ⌝ }
 {
     let mut i = 0;
+    while t.len() - i >= 16 {
+        if plain_at(t, i) {
+            i += 16;
+        } else {
+            break;
+        }
+    }
     while i < t.len() {
         let b = t[i];
         if b == b'\n' {
@@ -193,6 +228,7 @@ fn strange(t: &[u8]) -> Found
 // By the class of the first byte.
 pub(crate) fn scan(t: &[u8], classes: &[u8; 256], nexts: &[u8; 256], pairs: &[u8; 256]) -> Found
     requires { ⌜ 0 < length (now t) ⌝ }
+    requires { ⌜ in-set white (getD (now t) 0 0) ≡ false ⌝ }
     requires { ⌜ Table classOf (now classes) ⌝ }
     requires { ⌜ Table nextOf (now nexts) ⌝ }
     requires { ⌜ Table pairOf (now pairs) ⌝ }
@@ -206,9 +242,6 @@ pub(crate) fn scan(t: &[u8], classes: &[u8; 256], nexts: &[u8; 256], pairs: &[u8
             kind: keyword(&t[..n]),
             size: n,
         };
-    }
-    if c == WHITE {
-        return Found::Skip(white_run(t, classes));
     }
     if c == DIGIT {
         return Found::Number(word_run(t, classes));

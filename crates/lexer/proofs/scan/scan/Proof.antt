@@ -4,7 +4,7 @@ use borrow.Author.Needs.{needs}
 use lib.ListN.{getD, length-take, length-drop}
 use Rattle.patterns.specs.Bytes.{in-set, word}
 use Rattle.patterns.proofs.Runs.{run-within, rest-is}
-use Rattle.lexer.proofs.Scans.{Begun, Marked, found-name, found-white, found-numeral, found-nothing, found-last, found-slash, found-single, found-pair, found-comment, found-broken, line-within}
+use Rattle.lexer.proofs.Scans.{Begun, Marked, found-name, not-white, found-numeral, found-nothing, found-last, found-slash, found-single, found-pair, found-comment, found-broken, line-within}
 use Rattle.lexer.proofs.scan.scan.Statement.{statement}
 use Rattle.lexer.proofs.scan.scan.Tie as tie
 
@@ -12,10 +12,10 @@ begun : (c : tie.After-c) → Begun (c .before .before .before .args .t .now) (g
 begun c =
     let k = c .before .before in
     let small = k .shared-slice-known .given 0 .fits in
-    record { some = k .before .pre .0; small = small; class-is = k .before .pre .1 .0 .rule _ small }
+    record { some = k .before .pre .0; small = small; class-is = k .before .pre .1 .1 .0 .rule _ small }
 
-marked : (c : tie.Else5) → Marked (c .before .before .before .before .before .before .before .before .args .t .now) (getD (c .before .before .before .before .before .before .before .before .args .classes .now) (getD (c .before .before .before .before .before .before .before .before .args .t .now) 0 0) 0)
-marked c = record { begun = begun (c .before .before .before .before .before); low = omega arith; high = search needs }
+marked : (c : tie.Else4) → Marked (c .before .before .before .before .before .before .before .args .t .now) (getD (c .before .before .before .before .before .before .before .args .classes .now) (getD (c .before .before .before .before .before .before .before .args .t .now) 0 0) 0)
+marked c = let g = begun (c .before .before .before .before) in record { begun = g; low = omega (arith, not-white g (c .before .before .before .before .before .before .before .pre .1 .0)); high = search needs }
 
 pub scan-spec : {M : Type 1} → statement M
 scan-spec =
@@ -29,12 +29,10 @@ scan-spec =
     (λ c κs. search needs)
     (λ c. let g = begun (c .before .before .before .before) in found-name g (search) (search) (search))
     (λ c κs. search needs)
-    (λ c. let g = begun (c .before .before .before) in found-white g (search) (search))
-    (λ c κs. search needs)
-    (λ c. let g = begun (c .before .before .before .before) in found-numeral g (search) (search))
-    (λ c κs. let g = begun (c .before .before .before .before) in (g .some, found-nothing g (inl (search))))
+    (λ c. let g = begun (c .before .before .before) in found-numeral g (search) (search))
+    (λ c κs. let g = begun (c .before .before .before) in (g .some, found-nothing g (inl (search))))
     (λ c. search needs)
-    (λ c κs. let g = begun (c .before .before .before .before .before) in (g .some, found-nothing g (inr (omega arith))))
+    (λ c κs. let g = begun (c .before .before .before .before) in (g .some, found-nothing g (inr (omega arith))))
     (λ c. search needs)
     (λ c. found-last (marked (c .before)) (search))
     (λ c. search needs)
