@@ -19,7 +19,7 @@ use Rattle.patterns.proofs.Runs.{run-all}
 use Rattle.patterns.proofs.Words.{same-is, same-self}
 use Rattle.tables.specs.TokenKinds.{IDENT}
 use Rattle.lexer.specs.Kinds.{texts, fixedOf}
-use Rattle.lexer.specs.Classes.{kindFrom, nextOf, pairOf, classOf, Table}
+use Rattle.lexer.specs.Classes.{kindFrom, nextOf, pairOf, classOf, Table, keyOf, KeyTable}
 use Rattle.lexer.specs.Scans.{KindIs, kind, no-kind}
 
 -- ---- kinds
@@ -145,6 +145,17 @@ a-pair {b} {d} {n} {k} h e f z q =
     let w : b ∷ nextOf b ∷ [] ≡ fixedOf (pairOf b) = same-is _ _ (of-T _ (and-r (within 21 50 (pairOf b)) _ t)) in
     let g : nextOf b ≡ d = sym e ∙ f in
     kind (omega (arith, r .0)) (omega (arith, r .1)) (ap (λ (x : ℕ). b ∷ x ∷ []) (sym g) ∙ w ∙ ap fixedOf (sym q))
+
+-- ---- keys
+abbrev pub keyed : List ℕ → ℕ → Bool
+keyed l j = implies (within 2 19 j) (leb 1 (getD l (keyOf (fixedOf j)) 0))
+
+pub key-table : (l : List ℕ) → T (below 51 (keyed l)) → KeyTable l
+key-table l t =
+    record { some = λ j a b. leb→le 1 _ (modus (within 2 19 j) (leb 1 (getD l (keyOf (fixedOf j)) 0)) (kind-law (keyed l) t j (omega arith)) (within-of 2 19 j a b)) }
+
+pub no-key : {w l : List ℕ} {k : ℕ} → KeyTable l → k ≡ keyOf w → getD l k 0 ≡ 0 → KindIs 2 19 IDENT w IDENT
+no-key {l = l} t q z = no-kind refl (λ j a b e. omega (arith, t .some j a b, sym z ∙ ap (λ (i : ℕ). getD l i 0) (q ∙ ap keyOf e)))
 
 -- ---- classes
 pub table-rule : (f : ℕ → ℕ) (l : List ℕ) → T (every (λ k x. eqb x (f k)) 0 l) → length l ≡ 256 → Table f l

@@ -2,12 +2,12 @@
 use mathlib.Core.Path.{_≡_}
 use mathlib.Core.Bool.{cond, _&&_}
 use mathlib.Core.List.{List, [], _∷_}
-use Prim.Native.Nat.{ℕ, suc, _<_}
+use Prim.Native.Nat.{ℕ, suc, _+_, _*_, _%_, _≤_, _<_}
 use Prim.Native.String.{String}
 use lib.Dec.{ltb, eqb}
 use lib.ListN.{length, drop, getD}
 use Rattle.patterns.specs.Bytes.{bytes, within, same, in-set, white, letter, digit}
-use Rattle.lexer.specs.Kinds.{texts}
+use Rattle.lexer.specs.Kinds.{texts, fixedOf}
 
 -- the kind whose fixed text is w, 0 if there is none: the texts from kind k on are l
 unfoldable pub kindFrom : ℕ → List String → List ℕ → ℕ
@@ -48,3 +48,11 @@ pairOf b = kindFrom 0 texts (b ∷ nextOf b ∷ [])
 -- the table has what f says of each byte
 pub record Table (f : ℕ → ℕ) (l : List ℕ) : Type 0 where
   pub rule : (b : ℕ) → b < 256 → getD l b 0 ≡ f b
+
+-- the key of a word
+abbrev pub keyOf : List ℕ → ℕ
+keyOf w = (getD w 0 0 * 5 + getD w 1 0 * 2 + length w * 7) % 256
+
+-- the table has something at the key of each keyword
+pub record KeyTable (l : List ℕ) : Type 0 where
+  pub some : (j : ℕ) → 2 ≤ j → j ≤ 19 → 0 < getD l (keyOf (fixedOf j)) 0

@@ -1,5 +1,6 @@
 // The tokens and the lexical errors of a text.
 use super::class::classes;
+use super::class::keys;
 use super::class::nexts;
 use super::class::pairs;
 use super::scan::Found;
@@ -18,7 +19,7 @@ ghost use mathlib.Core.Bool.{false};
 ghost use Prim.Native.Nat.{_<_};
 ghost use lib.ListN.{length, getD};
 ghost use Rattle.patterns.specs.Bytes.{in-set, white};
-ghost use Rattle.lexer.specs.Classes.{classOf, nextOf, pairOf, Table};
+ghost use Rattle.lexer.specs.Classes.{classOf, nextOf, pairOf, Table, KeyTable};
 ghost use Rattle.lexer.specs.Scans.{Stepped};
 ghost use Rattle.lexer.specs.Answers.{LexedIs};
 
@@ -50,15 +51,22 @@ pub enum Lexed {
     Done { tokens: usize, diagnostics: usize },
 }
 
-fn step(t: &[u8], classes: &[u8; 256], nexts: &[u8; 256], pairs: &[u8; 256]) -> Item
+fn step(
+    t: &[u8],
+    classes: &[u8; 256],
+    nexts: &[u8; 256],
+    pairs: &[u8; 256],
+    keys: &[u8; 256],
+) -> Item
     requires { ⌜ 0 < length (now t) ⌝ }
     requires { ⌜ in-set white (getD (now t) 0 0) ≡ false ⌝ }
     requires { ⌜ Table classOf (now classes) ⌝ }
     requires { ⌜ Table nextOf (now nexts) ⌝ }
     requires { ⌜ Table pairOf (now pairs) ⌝ }
+    requires { ⌜ KeyTable (now keys) ⌝ }
     ensures { λ r. ⌜ Stepped (now (t .entry)) r ⌝ }
 {
-    let f = scan(t, classes, nexts, pairs);
+    let f = scan(t, classes, nexts, pairs, keys);
     match f {
         Found::Skip(n) => Item::Skipped(n),
         Found::Token { kind, size } => Item::Token {
@@ -106,6 +114,7 @@ pub fn lex(text: &[u8], tokens: &mut [u8], diagnostics: &mut [u8]) -> Lexed
     let classes = classes();
     let nexts = nexts();
     let pairs = pairs();
+    let keys = keys();
     let mut at = 0;
     let mut token_count: usize = 0;
     let mut error_count: usize = 0;
@@ -114,7 +123,7 @@ pub fn lex(text: &[u8], tokens: &mut [u8], diagnostics: &mut [u8]) -> Lexed
         if start == text.len() {
             at = start;
         } else {
-            let item = step(&text[start..], &classes, &nexts, &pairs);
+            let item = step(&text[start..], &classes, &nexts, &pairs, &keys);
             match item {
                 Item::Skipped(size) => {
                     at = start + size;

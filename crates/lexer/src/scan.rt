@@ -9,10 +9,10 @@ use utf8::char_len;
 ghost use mathlib.Core.Path.{_≡_};
 ghost use mathlib.Core.Bool.{false};
 ghost use mathlib.Core.List.{[], _∷_};
-ghost use Prim.Native.Nat.{_+_, _≤_, _<_};
+ghost use Prim.Native.Nat.{_+_, _*_, _%_, _≤_, _<_};
 ghost use lib.ListN.{length, getD};
 ghost use Rattle.patterns.specs.Bytes.{in-set, white, word, run};
-ghost use Rattle.lexer.specs.Classes.{classOf, nextOf, pairOf, Table};
+ghost use Rattle.lexer.specs.Classes.{classOf, nextOf, pairOf, Table, KeyTable};
 ghost use Rattle.tables.specs.TokenKinds.{IDENT};
 ghost use Rattle.lexer.specs.Scans.{KindIs, Still, Plain, LineIs, Scanned};
 ghost use Rattle.lexer.specs.Tokens.{Stuck};
@@ -117,11 +117,29 @@ fn line_run(t: &[u8]) -> usize
     i
 }
 
-// The kind of a word: a keyword's, or a name's.
-fn keyword(w: &[u8]) -> u8
+// The key of a word of n bytes that begins with these two.
+fn key(a: u8, b: u8, n: usize) -> usize
+    requires { ⌜ n ≤ 8 ⌝ }
+    ensures { λ r. ⌜ (r ≡ (a * 5 + b * 2 + n * 7) % 256) × (r < 256) ⌝ }
+{
+    ((a as usize) * 5 + (b as usize) * 2 + n * 7) % 256
+}
+
+// The kind of a word: a keyword's, or a name's. Most names have no keyword's key.
+fn keyword(w: &[u8], keys: &[u8; 256]) -> u8
+    requires { ⌜ KeyTable (now keys) ⌝ }
     ensures { λ r. ⌜ KindIs 2 19 IDENT (now (w .entry)) r ⌝ }
 {
     let n = w.len();
+    if n < 2 {
+        return token_type::IDENTIFIER;
+    }
+    if n > 8 {
+        return token_type::IDENTIFIER;
+    }
+    if keys[key(w[0], w[1], n)] == 0 {
+        return token_type::IDENTIFIER;
+    }
     if n == 2 {
         if is_word(w, b"as") {
             return token_type::AS;
@@ -226,12 +244,19 @@ fn strange(t: &[u8]) -> Found
 }
 
 // By the class of the first byte.
-pub(crate) fn scan(t: &[u8], classes: &[u8; 256], nexts: &[u8; 256], pairs: &[u8; 256]) -> Found
+pub(crate) fn scan(
+    t: &[u8],
+    classes: &[u8; 256],
+    nexts: &[u8; 256],
+    pairs: &[u8; 256],
+    keys: &[u8; 256],
+) -> Found
     requires { ⌜ 0 < length (now t) ⌝ }
     requires { ⌜ in-set white (getD (now t) 0 0) ≡ false ⌝ }
     requires { ⌜ Table classOf (now classes) ⌝ }
     requires { ⌜ Table nextOf (now nexts) ⌝ }
     requires { ⌜ Table pairOf (now pairs) ⌝ }
+    requires { ⌜ KeyTable (now keys) ⌝ }
     ensures { λ r. ⌜ Scanned (now (t .entry)) r ⌝ }
 {
     let b = t[0];
@@ -239,7 +264,7 @@ pub(crate) fn scan(t: &[u8], classes: &[u8; 256], nexts: &[u8; 256], pairs: &[u8
     if c == LETTER {
         let n = word_run(t, classes);
         return Found::Token {
-            kind: keyword(&t[..n]),
+            kind: keyword(&t[..n], keys),
             size: n,
         };
     }

@@ -2,17 +2,17 @@ use borrow.Author.Needs.{needs}
 use mathlib.Core.Path.{_≡_}
 use mathlib.Core.Bool.{true, not}
 use mathlib.Core.List.{List, [], _∷_}
-use Prim.Native.Nat.{ℕ}
-use lib.Dec.{T, eqb}
+use Prim.Native.Nat.{ℕ, _<_}
+use lib.Dec.{T, eqb, ltb}
 use lib.ListN.{length}
-use borrow.Author.Tests.{eq-eqb, ne-eqb}
+use borrow.Author.Tests.{eq-eqb, ne-eqb, lt-ltb}
 use Rattle.patterns.specs.Bytes.{same, within}
 use Rattle.patterns.proofs.Tests.{T-of}
 use Rattle.patterns.proofs.Table.{below, within-is}
 use Rattle.tables.specs.TokenKinds.{IDENT}
 use Rattle.lexer.specs.Kinds.{fixedOf, texts}
 use Rattle.lexer.specs.Scans.{KindIs}
-use Rattle.lexer.proofs.Texts.{member, listed, NoneOf, no-keyword, is-kind, told}
+use Rattle.lexer.proofs.Texts.{member, listed, NoneOf, no-keyword, is-kind, no-key, told}
 use Rattle.lexer.proofs.scan.keyword.Statement.{statement}
 use Rattle.lexer.proofs.scan.keyword.Tie as tie
 
@@ -22,6 +22,14 @@ module _ {w : List ℕ} where
 
   no : (n : ℕ) (l : List ℕ) → T (below 51 (listed (λ m. eqb m n) l)) → length w ≡ n → NoneOf w l → KindIs 2 19 IDENT w IDENT
   no n l t h f = no-keyword w (λ m. eqb m n) l t (T-of (eq-eqb (length w) n h)) f
+
+  short : length w < 2 → KindIs 2 19 IDENT w IDENT
+  unfolding fixedOf texts listed member
+  short h = no-keyword w (λ m. ltb m 2) [] tt (T-of (lt-ltb (length w) 2 h)) tt
+
+  long : 8 < length w → KindIs 2 19 IDENT w IDENT
+  unfolding fixedOf texts listed member
+  long h = no-keyword w (λ m. ltb 8 m) [] tt (T-of (lt-ltb 8 (length w) h)) tt
 
   other : (length w ≡ 2 → ⊥) → (length w ≡ 3 → ⊥) → (length w ≡ 4 → ⊥) → (length w ≡ 5 → ⊥) → (length w ≡ 6 → ⊥) → (length w ≡ 8 → ⊥) → KindIs 2 19 IDENT w IDENT
   unfolding fixedOf texts listed member
@@ -34,6 +42,13 @@ unfolding fixedOf texts listed member
 keyword-spec =
     tie.close
     (tie.spec
+    (λ c. short (search))
+    (λ c. long (search))
+    (λ c. search needs)
+    (λ c. search needs)
+    (λ c κs. search needs)
+    (λ c. search needs)
+    (λ c. search (needs, no-key))
     (λ c. search needs)
     (λ c κs. search needs)
     (λ c. yes 2 tt (search told))
