@@ -1,4 +1,4 @@
-// What each byte can begin, in tables of 256 entries.
+// What each byte can begin, and which words can be keywords, in tables of 256 entries.
 ghost use Rattle.lexer.specs.Classes.{classOf, nextOf, pairOf, Table, KeyTable};
 
 pub const WHITE: u8 = 1;

@@ -73,7 +73,7 @@ fn still(plain: bool, b: u8) -> bool
     false
 }
 
-// The 16 bytes from i on are ASCII characters other than LF: compiled, one comparison of vectors.
+// The 16 bytes from i on are ASCII characters other than LF. LLVM makes one comparison of vectors of it.
 fn plain_at(t: &[u8], i: usize) -> bool
     requires { ⌜ i + 16 ≤ length (now t) ⌝ }
     ensures { λ r. ⌜ Plain (now (t .entry)) i 16 r ⌝ }
@@ -125,7 +125,7 @@ fn key(a: u8, b: u8, n: usize) -> usize
     ((a as usize) * 5 + (b as usize) * 2 + n * 7) % 256
 }
 
-// The kind of a word: a keyword's, or a name's. Most names have no keyword's key.
+// The kind of a word: a keyword's, or a name's. Most names have no keyword's key, and are compared with none.
 fn keyword(w: &[u8], keys: &[u8; 256]) -> u8
     requires { ⌜ KeyTable (now keys) ⌝ }
     ensures { λ r. ⌜ KindIs 2 19 IDENT (now (w .entry)) r ⌝ }
@@ -243,7 +243,7 @@ fn strange(t: &[u8]) -> Found
     Found::Strange(n)
 }
 
-// By the class of the first byte.
+// By the class of the first byte, which is no white space.
 pub(crate) fn scan(
     t: &[u8],
     classes: &[u8; 256],
