@@ -24,7 +24,7 @@ use Rattle.lexer.specs.declared.lexing.Item as declared
 use Rattle.lexer.specs.declared.lexing.Item.the-variants as Item
 use Rattle.lexer.specs.declared.lexing.Lexed.the-variants as Lexed
 use Rattle.lexer.proofs.Determined.{step-some}
-use Rattle.lexer.proofs.Scans.{found-white}
+use Rattle.lexer.proofs.Scans.{white-found}
 
 -- ---- one step
 module _ {s : List ℕ} {f : Found} (i : Scanned s f) where
@@ -166,7 +166,7 @@ module _ {text a₀ b₀ : List ℕ} where
 
     pub going-white : {s : List ℕ} {n : ℕ} → n ≡ run (in-set white) s → s ≡ drop at text → Going text a₀ b₀ a b (at + n) nt nd
     going-white {n = zero} e q = subst (λ (m : ℕ). Going text a₀ b₀ a b m nt nd) (sym (add-zero at)) g
-    going-white {n = suc n} e q = going-skipped (skip-step (found-white e (omega arith)) refl) q refl
+    going-white {n = suc n} e q = going-skipped (skip-step (white-found e (omega arith)) refl) q refl
 
     pub going-token : {s a′ : List ℕ} {i : declared.Item} {n k x v : ℕ} → Stepped s i → s ≡ drop at text → i ≡ Item.Token n k x v
         → a′ ≡ stored 16 a nt (encodeToken (record { kind = k; suffix = x; start = at; end = at + n; value = v })) → Going text a₀ b₀ a′ b (at + n) (nt + 1) nd

@@ -15,7 +15,7 @@ use Rattle.patterns.specs.Bytes.{within, Set, in-set, white, word, run}
 use Rattle.patterns.specs.Patterns.{All}
 use Rattle.patterns.proofs.Tests.{T-of, of-T, or-cases, implies}
 use Rattle.patterns.proofs.Table.{below, small, within-is, within-of, subset}
-use Rattle.patterns.proofs.Runs.{Passed, passed-none, passed-more, passed-stop, passed-end, run-within, run-all, all-imp}
+use Rattle.patterns.proofs.Runs.{Passed, passed-none, passed-more, passed-stop, passed-end, run-within, run-all, run-some, all-imp}
 use Rattle.utf8.specs.Utf8.{Begins, FirstChar, Rest, begins, nothing}
 use Rattle.utf8.proofs.Laws.{begins-some, begins-high, rest-none, rest-char, rest-ascii, rest-more, rest-stop, next-ascii}
 use Rattle.tables.specs.TokenKinds.{IDENT}
@@ -200,8 +200,8 @@ take-two : (s : List ℕ) → 1 < length s → take 2 s ≡ getD s 0 0 ∷ getD 
 take-two [] h = absurd (omega arith)
 take-two (a ∷ s) h = ap (λ (l : List ℕ). a ∷ l) (take-one s (omega arith))
 
-pub found-white : {s : List ℕ} {n : ℕ} → n ≡ run (in-set white) s → 1 ≤ n → Scanned s (Found.Skip n)
-found-white {s} e h =
+pub white-found : {s : List ℕ} {n : ℕ} → n ≡ run (in-set white) s → 1 ≤ n → Scanned s (Found.Skip n)
+white-found {s} e h =
     let f = run-first (in-set white) s (omega arith) in
     subst (λ (m : ℕ). Scanned s (Found.Skip m)) (sym e) (Scanned.skip (best-white s (f .0) (f .1)) (white-rest s))
 
@@ -225,6 +225,9 @@ module _ {s : List ℕ} {c : ℕ} (g : Begun s c) where
       least : {w : List ℕ} → KindIs 2 19 IDENT w k → 2 ≤ k
       least (kind a b d) = a
       least (no-kind a b) = omega arith
+
+  pub found-white : {n : ℕ} → c ≡ 1 → n ≡ run (in-set white) s → Scanned s (Found.Skip n)
+  found-white q e = white-found e (omega (arith, run-some (in-set white) s (g .some) (white-is _ _ (g .small) (g .class-is) ∙ eq-eqb c 1 q)))
 
   pub not-white : in-set white (getD s 0 0) ≡ false → c ≡ 1 → ⊥
   not-white w q = false≢true (sym w ∙ white-is _ _ (g .small) (g .class-is) ∙ eq-eqb c 1 q)
