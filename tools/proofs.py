@@ -15,10 +15,15 @@ CRATE = os.path.join(TOP, "crates/parser")
 MOD = "Rattle.parser.proofs."
 # a contract's relation: the law that makes a reading of it, and the law that says how far on it is
 READ = {"Reads": ("", "on"), "Puts": ("one-put", "on-put"), "Grown": ("one-grown", "on-grown"), "Step": ("one-step", "on-step"), "Free": ("one-free", "on-free")}
+# those that speak of one text
+TEXTED = ("Reads", "Inside", "")
 OWN = {"Reads": "", "Puts": "λ text. ", "Grown": "λ text w. ", "Step": "λ text T. ", "Free": "λ text w T. "}
 MAKE = {"Puts": "puts", "Grown": "grown", "Step": "steps", "Free": "free"}
 # the forms of parameters that proofs/Cycles has measures for
-FORMS = {("text", "tokens", "nodes", "cursor"): "reader", ("text", "tokens", "nodes", "cursor", "n"): "level", ("tokens", "nodes", "cursor"): "pattern"}
+FORMS = {("text", "tokens", "nodes", "cursor"): "reader", ("text", "tokens", "nodes", "cursor", "n"): "level", ("tokens", "nodes", "cursor"): "pattern",
+         ("text", "tokens", "nodes", "at", "count", "nest"): "inside", ("text", "tokens", "nodes", "at", "count", "nest", "n"): "inside-level"}
+# calls that read nothing by themselves
+PLAIN = ("enter", "leave", "skip", "peek", "second", "begin", "ended", "join", "inner")
 WORD = r"(?<![\w.·-])[a-z][a-z0-9-]*(?![\w·-])"
 dash = lambda f: f.replace("_", "-")
 
@@ -194,7 +199,7 @@ def shape(fn, recipe):
     idle = body.lstrip().startswith("if cursor.status != READING {\n        return cursor;")
     first = "returns-2" if idle else "returns"
     later = lambda n: f"returns-{n + (1 if idle else 0)}" if n + (1 if idle else 0) > 1 else "returns"
-    run = lambda a, b: " then ".join(c for c, i in cs if a <= i < b and c not in ("enter", "leave", "skip"))
+    run = lambda a, b: " then ".join(c for c, i in cs if a <= i < b and c not in PLAIN)
     if "while p.status == READING" in body and fn.grammar:
         start, test = body.index("while p.status"), body.index("if q.status == FAILED")
         m = re.match(r"\((many|list|fields|entries) (.*)\)$", fn.grammar)
@@ -203,7 +208,10 @@ def shape(fn, recipe):
         r.setdefault("of", {"many": inner.strip("()") if not inner.startswith("(") or inner.count("(") == 1 else inner[1:-1], "list": f"L.another {inner}", "fields": f"L.another (L.field {inner})", "entries": f"L.another {inner}"}[kind])
         r.setdefault("round", run(start, test))
         if kind == "many" and "&" not in fn.grammar:
-            r.setdefault(later(1), "rounds-end LOOP TEST ROUND OUT"); r.setdefault(later(2), "rounds-off LOOP OUT")
+            look = re.search(r"let k = p\.peek\(tokens\);\n\s+if k (==|!=) ", body[start:test])
+            if look: r.setdefault(later(1), "rounds-miss LOOP =peek (OUT, tt) tt" if look.group(1) == "!=" else "rounds-before LOOP =peek OUT tt")
+            n = 2 if look else 1
+            r.setdefault(later(n), "rounds-end LOOP TEST ROUND OUT"); r.setdefault(later(n + 1), "rounds-off LOOP OUT")
         elif kind in ("list", "fields", "entries"):
             law, head, one = ("entries" if kind == "entries" else "listed"), "(" + run(0, start) + ")", "if2" if idle else "if1"
             comma = "" if kind == "entries" else " =skip"
@@ -213,7 +221,8 @@ def shape(fn, recipe):
     elif body.count("return ") == (1 if idle else 0) and "while" not in body and fn.relation in READ:
         term = run(0, len(body))
         m = re.match(r"\(rule (\w+)\)$", fn.grammar)
-        r.setdefault(first, f"by-rule G.{m.group(1)} refl if1 enter ({term}) leave" if m else term)
+        part = next((c for c, i in cs if c.endswith("-at")), None)
+        r.setdefault(first, f"by-part G.{m.group(1)} (record {{ upto = omega (arith, inner) }}) if1 {part} join" if part and m else f"by-rule G.{m.group(1)} refl if1 enter ({term}) leave" if m else term)
     return r
 
 def looked(term, idle):
@@ -238,7 +247,8 @@ class Reader:
         self.loop = bool(lts.loops)
 
     def info(self, thing): return FNS.get(re.sub(r"\d+$", "", thing).replace("-", "_"))
-    def inv(self): return "loop" if self.fn.relation == "Reads" or not self.fn.relation else "(loop [])"
+    def form(self): return FORMS.get(tuple(self.fn.params), "")
+    def inv(self): return "loop" if self.fn.relation in TEXTED else "(loop [])"
 
     def chain(self, d, since=None):
         """how far on the cursor is, by the calls made: a term, and whether a token was taken"""
@@ -250,6 +260,7 @@ class Reader:
             if re.match(r"loop\d*$", k): out.append(f"({self.inv()} .on)")
             elif f and f.name == "operator": out.append(f"on-operator (args .n) {k}"); far = True
             elif f and f.name == "enter": out.append(f"at-in {k}")
+            elif f and f.name == "begin": out.append(f"at-begin {k}")
             elif f and f.name == "operand": out.append(f"at-operand prefixes {k}")
             elif f and f.relation in READ: out.append(f"{READ[f.relation][1]} {k}"); far = far or f.name in self.far
         return " and-on ".join(out) or "at-here", far
@@ -266,7 +277,8 @@ class Reader:
         if term is None and callee:
             if dash(callee) in members:
                 ch, far = self.chain(d)
-                start = f"(was ({self.inv()} .on) {test})" if inside and not self.idle else "if1"
+                start = f"(was ({self.inv()} .on) {test})" if inside and not self.idle else "refl" if self.form().startswith("inside") else "if1"
+                if callee.endswith("-at"): ch = "at-rule if1"
                 term = f"({'further' if far else 'lower'} {self.ranks[dash(callee)]} {self.ranks[dash(self.fn.name)]} (pre .0) {start} ({ch}) {'tt ' if far else ''}(omega arith), tt)"
             else: term = "tt"
         elif term is None and need == "returns" and self.idle: term = self.own("idle if1")
@@ -278,7 +290,7 @@ class Reader:
         if need.startswith("returns") and need in self.recipe: term = self.own(term)
         if term is None: term = "search needs"
         if "round" in self.recipe: term = term.replace("ROUND", "(" + self.recipe["round"] + ")")
-        term = term.replace("LOOP", "loop" if self.fn.relation in ("Reads", "") else "(loop text)")
+        term = term.replace("LOOP", "loop" if self.fn.relation in TEXTED else "(loop text)")
         if test: term = term.replace("TEST", test)
         if tests: term = term.replace("OUT", tests[0])
         if "KEPT" in term:
@@ -286,7 +298,7 @@ class Reader:
             for path, th in keeps:
                 k = f"kept{len(names) + 1}"
                 if re.match(r"loop\d*$", th):
-                    d[k] = f"{path} .{th} .inv"; names.append(f"{k}{'' if self.fn.relation in ('Reads', '') else ' []'} .kept")
+                    d[k] = f"{path} .{th} .inv"; names.append(f"{k}{'' if self.fn.relation in TEXTED else ' []'} .kept")
                     if "KEPTIN" in term: break
                 else:
                     d[k] = f"{path} .{th} .kept" + " .1" * self.info(th).params.index("nodes") + " .0"; names.append(k)
@@ -298,7 +310,7 @@ class Reader:
         term = re.sub(r"(?<![\w=])=(?=[a-z])", "", term)
         return f"    -- {need}\n    (λ c{' κs' if callee else ''}. {bind(term, d)})\n"
 
-    def held(self, term): return (f"λ text. {term}" if self.fn.relation not in ("Reads", "") else term)
+    def held(self, term): return (f"λ text. {term}" if self.fn.relation not in TEXTED else term)
     def own(self, term):
         if term.startswith("!"): return term[1:]
         r = self.fn.relation
@@ -307,7 +319,7 @@ class Reader:
     def invariants(self, kind):
         """the loop's invariant and measure: the rounds of the grammar that the contract repeats"""
         if not self.loop: return ""
-        free = self.fn.relation not in ("Reads", "")
+        free = self.fn.relation not in TEXTED
         names = self.recipe.get("vars", "tokens nodes₀ p₀ nodes p" if free else "text tokens nodes₀ p₀ nodes p")
         inv = self.recipe.get("Inv-loop") or ("(text : List ℕ) → " if free else "") + f"Looping text tokens ({self.recipe['of']}) p₀ nodes₀ p nodes"
         measure = self.recipe.get("μ-loop", "size tokens p 0")

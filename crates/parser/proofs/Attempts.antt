@@ -1,5 +1,5 @@
 -- How attempts go together, form by form. Assumes nothing.
-use Prim.Native.Nat.{ℕ, _+_, _≤_, _<_, min}
+use Prim.Native.Nat.{ℕ, _+_, _≤_, _<_}
 use mathlib.Core.Path.{_≡_, refl}
 use native.Mathlib.Omega.{arith}
 use Rattle.grammar.specs.Derive.{Input, token, R, Act, Step, take, close, tick, alone, done, G, step, _&_, _or_, many, both, rule, S, Out, got, none, yields, agree, enter, leave}
@@ -7,7 +7,7 @@ use Rattle.grammar.specs.Derive.{Derives, stepped, and-not, and-then, or-first,
 use Rattle.grammar.specs.Derive.{Takes, here, and-left, and-right, or-left, or-right, now, later, both-first, inside}
 use Rattle.grammar.specs.Grammar.{body, nests}
 use Rattle.grammar.proofs.Unique.{unique, apart, same}
-use Rattle.parser.specs.Read.{LIMIT, Attempt, Exceeds}
+use Rattle.parser.specs.Read.{LIMIT, Upto, Attempt, Exceeds}
 
 -- a step that is no token
 abbrev pub Silent : Step → Type 0
@@ -79,11 +79,11 @@ module _ {x : Input} where
   attempt-both c d = record { derived = agreed (c .derived) d; within = λ i m t. elim t [ both-first u ↦ c .within i m u ] }
 
   -- nests past the limit are not told apart
-  pub attempt-rule : {r : R} {n k : ℕ} {s : S} {o : Out} → k ≡ min (n + nests r) (LIMIT + 1) → Attempt x (body r) k (enter s) o → Attempt x (rule r) n s (leave s o)
+  pub attempt-rule : {r : R} {n k : ℕ} {s : S} {o : Out} → Upto (LIMIT + 1) k (n + nests r) → Attempt x (body r) k (enter s) o → Attempt x (rule r) n s (leave s o)
   attempt-rule {k = k} e c =
       record {
         derived = ruled (c .derived);
-        within = λ i m t. elim t [ inside u ↦ let q = shift k u in omega (arith, q .was, c .within i (k + q .deeper) (q .is)) ];
+        within = λ i m t. elim t [ inside u ↦ let q = shift k u in omega (arith, e .upto, q .was, c .within i (k + q .deeper) (q .is)) ];
       }
 
   pub attempt-take : {k : ℕ} {a : Act} {n : ℕ} {s : S} → n ≤ LIMIT → Attempt x (step (take k a)) n s (yields x (take k a) s)
@@ -123,10 +123,10 @@ module _ {x : Input} where
   pub exceeds-both : {g h : G} {n : ℕ} {s : S} → Exceeds x g n s → Exceeds x (both g h) n s
   exceeds-both = exceeds-by (λ i m. both-first)
 
-  pub exceeds-rule : {r : R} {n k : ℕ} {s : S} → k ≡ min (n + nests r) (LIMIT + 1) → Exceeds x (body r) k (enter s) → Exceeds x (rule r) n s
+  pub exceeds-rule : {r : R} {n k : ℕ} {s : S} → Upto (LIMIT + 1) k (n + nests r) → Exceeds x (body r) k (enter s) → Exceeds x (rule r) n s
   exceeds-rule {r} {n} e c =
       let q = shift (n + nests r) (c .takes) in
-      record { token = c .token; nest = n + nests r + q .deeper; above = omega (arith, q .was, c .above); takes = inside (q .is) }
+      record { token = c .token; nest = n + nests r + q .deeper; above = omega (arith, e .upto, q .was, c .above); takes = inside (q .is) }
 
   pub exceeds-take : {k : ℕ} {a : Act} {n : ℕ} {s : S} → token x (s .at) .kind ≡ k → LIMIT < n → Exceeds x (step (take k a)) n s
   exceeds-take {n = n} {s = s} e h = record { token = s .at; nest = n; above = h; takes = here e refl refl }

@@ -10,8 +10,8 @@ use lib.ListN.{replicate, length-append, length-replicate}
 use borrow.Author.Tests.{eq-eqb, ne-eqb}
 use Rattle.grammar.specs.Derive.{Token, S, part, enter, next, marked, emit, closed}
 use Rattle.parser.specs.Parse.{MAX16, MAX64}
-use Rattle.parser.specs.Read.{Upto, Represents}
-use Rattle.parser.specs.Steps.{up, past, with-mark, with-part, counted, closed-at, entered}
+use Rattle.parser.specs.Read.{Upto, Represents, begun, ending}
+use Rattle.parser.specs.Steps.{up, past, with-mark, with-part, counted, closed-at, joining}
 use Rattle.parser.specs.declared.cursor.Cursor.{Cursor}
 
 -- ---- numbers up to a limit
@@ -44,8 +44,8 @@ upto-first {m = m} e f g = rw (test 0 (omega arith) e) (upto-if (eqb m 0) f g)
 pub seen-as : {p q : Cursor} {s : S} → p ≡ q → Represents q s → Represents p s
 seen-as e v = rw e v
 
-pub represents-enter : {p : Cursor} {s : S} (d : ℕ) → Represents p s → Represents (entered d p) (enter s)
-represents-enter d v = record { at = v .at; first = v .at; parts = near; mark = near; from = near; to = near; count = v .count }
+pub represents-enter : {p : Cursor} {s : S} (n : ℕ) → Represents p s → Represents (begun (p .at) (p .count) n) (enter s)
+represents-enter n v = record { at = v .at; first = v .at; parts = near; mark = near; from = near; to = near; count = v .count }
 
 pub represents-past : {p : Cursor} {s : S} → Represents p s → Represents (past p) (next s)
 represents-past v =
@@ -56,7 +56,7 @@ represents-mark e v = record { at = v .at; first = v .first; parts = v .parts; m
 
 -- one part more of p, read up to q
 pub represents-leave : {p q : Cursor} {s t : S} → Represents p s → Represents q t
-    → Represents (record { at = q .at; count = q .count; nest = p .nest; status = q .status; first = p .first; parts = up MAX16 (p .parts); mark = p .mark; from = cond (eqb (p .parts) 0) (q .from) (p .from); to = q .to })
+    → Represents (joining p (ending q))
     (record { at = t .at; nodes = t .nodes; unknown = t .unknown; frame = part (t .frame .from) (t .frame .to) (s .frame) })
 unfolding part
 represents-leave v w =

@@ -3,11 +3,16 @@
 use Prim.Native.Nat.{ℕ, _<_}
 use borrow.Fn.Kinds.{In}
 use borrow.Fn.PlainCycle.{Measures, is, falls, and}
+use Rattle.parser.specs.Read.{begun}
 use Rattle.parser.proofs.Falls.{size}
 use Rattle.parser.proofs.expressions.expr.Kinds as reader
 use Rattle.parser.proofs.expressions.expr.Reads as reader-reads
 use Rattle.parser.proofs.expressions.level.Kinds as level
 use Rattle.parser.proofs.expressions.level.Reads as level-reads
+use Rattle.parser.proofs.expressions.unary_at.Kinds as inside
+use Rattle.parser.proofs.expressions.unary_at.Reads as inside-reads
+use Rattle.parser.proofs.expressions.level_at.Kinds as inside-level
+use Rattle.parser.proofs.expressions.level_at.Reads as inside-level-reads
 use Rattle.parser.proofs.let_pattern.pattern.Kinds as pattern
 use Rattle.parser.proofs.let_pattern.pattern.Reads as pattern-reads
 
@@ -30,6 +35,26 @@ level-at n t = and 3 level.ps (is 3 level.ps (μ-level n) t) level-reads.Pre
 
 abbrev pub level-below : ℕ → ℕ → In 3 level.ps
 level-below n t = and 3 level.ps (falls 3 level.ps _<_ (μ-level n) t) level-reads.Pre
+
+-- the inside of a rule: text, tokens, nodes, at, count, nest
+abbrev pub μ-inside : ℕ → Measures 3 inside.ps ℕ
+μ-inside n κs a = size (a .1 .0 .now) (begun (a .1 .1 .1 .0) (a .1 .1 .1 .1 .0) (a .1 .1 .1 .1 .1 .0)) n
+
+abbrev pub inside-at : ℕ → ℕ → In 3 inside.ps
+inside-at n t = and 3 inside.ps (is 3 inside.ps (μ-inside n) t) inside-reads.Pre
+
+abbrev pub inside-below : ℕ → ℕ → In 3 inside.ps
+inside-below n t = and 3 inside.ps (falls 3 inside.ps _<_ (μ-inside n) t) inside-reads.Pre
+
+-- the same with a level
+abbrev pub μ-inside-level : ℕ → Measures 3 inside-level.ps ℕ
+μ-inside-level n κs a = size (a .1 .0 .now) (begun (a .1 .1 .1 .0) (a .1 .1 .1 .1 .0) (a .1 .1 .1 .1 .1 .0)) n
+
+abbrev pub inside-level-at : ℕ → ℕ → In 3 inside-level.ps
+inside-level-at n t = and 3 inside-level.ps (is 3 inside-level.ps (μ-inside-level n) t) inside-level-reads.Pre
+
+abbrev pub inside-level-below : ℕ → ℕ → In 3 inside-level.ps
+inside-level-below n t = and 3 inside-level.ps (falls 3 inside-level.ps _<_ (μ-inside-level n) t) inside-level-reads.Pre
 
 -- tokens, nodes, cursor
 abbrev pub μ-pattern : ℕ → Measures 2 pattern.ps ℕ

@@ -15,7 +15,7 @@ use Rattle.grammar.proofs.On.{on-of}
 use Rattle.grammar.proofs.Progress.{eats, sane?, grows}
 use Rattle.grammar.proofs.Whole.{solid, takes-one}
 use Rattle.parser.specs.Parse.{input}
-use Rattle.parser.specs.Read.{READING, Represents, Result, matched, failed, exceeded, Reads, still, reads, Puts, puts, Grown, grown, Step, steps, Free, free}
+use Rattle.parser.specs.Read.{READING, Represents, Result, matched, failed, exceeded, Reads, still, reads, Puts, puts, Grown, grown, Step, steps, Free, free, begun}
 use Rattle.parser.specs.Steps.{fresh-at, at-nest}
 use Rattle.parser.specs.declared.cursor.Cursor.{Cursor}
 use Rattle.parser.proofs.Laws.{clash, some}
@@ -79,6 +79,13 @@ module _ {w : List ℕ} where
   -- into a rule, at whatever nest
   pub at-in : {n : ℕ} {p q : Cursor} → q ≡ at-nest n (fresh-at (p .at) p) → Ahead false w p q
   at-in e = same-place (ap (λ (r : Cursor). r .at) e) (ap (λ (r : Cursor). r .status) e)
+
+  -- at the first token of a rule, and before a rule
+  pub at-begin : {i c n : ℕ} {q : Cursor} → q ≡ begun i c n → Ahead false w (begun i c n) q
+  at-begin e = same-place (ap (λ (r : Cursor). r .at) e) (ap (λ (r : Cursor). r .status) e)
+
+  pub at-rule : {c n : ℕ} {p : Cursor} → p .status ≡ READING → Ahead false w p (begun (p .at) c n)
+  at-rule z = same-place refl (sym z)
 
   pub at-here : {p : Cursor} → Ahead false w p p
   at-here = same-place refl refl

@@ -18,11 +18,12 @@ use Rattle.grammar.proofs.Whole.{solid}
 use Rattle.grammar.proofs.First.{empties, firsts, Absent, absent?, absent-of, misses, untaken}
 use Rattle.patterns.proofs.Tests.{and-l, and-r}
 use Rattle.parser.specs.Parse.{input}
-use Rattle.parser.specs.Read.{LIMIT, Attempt, Exceeds, Holds, READING, FAILED, Represents, Result, matched, failed, exceeded, Reads, still, reads}
+use Rattle.parser.specs.Read.{LIMIT, Attempt, Exceeds, Holds, READING, FAILED, Upto, Represents, Result, matched, failed, exceeded, Reads, still, reads, begun, ending, Inside, inside}
 use Rattle.parser.specs.Read.{Puts, puts, Grown, grown, Step, steps, Free, free}
-use Rattle.parser.specs.Steps.{entered, Left, left-still, left}
+use Rattle.parser.specs.Steps.{entered, joining, Left, left-still, left}
 use Rattle.parser.specs.declared.cursor.Cursor.{Cursor}
-use Rattle.parser.proofs.Attempts.{attempt-and-not, attempt-and-then, attempt-or-first, attempt-or-else, attempt-rule, attempt-step, exceeds-and-left, exceeds-and-right, exceeds-or-left, exceeds-or-right, exceeds-rule}
+use Rattle.parser.specs.declared.cursor.Part.{Part}
+use Rattle.parser.proofs.Attempts.{attempt-and-not, attempt-and-then, attempt-or-first, attempt-or-else, attempt-no-more, attempt-rule, attempt-step, exceeds-and-left, exceeds-and-right, exceeds-or-left, exceeds-or-right, exceeds-rule}
 pub use Rattle.parser.proofs.Cursors.{seen-as, represents-enter, represents-leave, some}
 use Rattle.parser.proofs.Holding.{holds-fewer}
 
@@ -38,6 +39,17 @@ status-as e z = ap (λ (q : Cursor). q .status) e ∙ z
 -- what had nodes added still has the old
 pub kept : {x : Input} {g : G} {s t : S} {U : List ℕ} → Derives body x g s (got t) → Holds U (t .nodes) → Holds U (s .nodes)
 kept {s = s} d H = let a = on-of (added d) in holds-fewer (s .nodes) (a .more) (rw (a .adds) at H)
+
+-- going into a rule
+begun-in : (p : Cursor) (d : ℕ) → p .status ≡ READING → entered d p ≡ begun (p .at) (p .count) (min (p .nest + d) (LIMIT + 1))
+begun-in p d z = rw z refl
+
+pub as-deep : {n m : ℕ} → m ≡ 0 → Upto (LIMIT + 1) n (n + m)
+as-deep e = record { upto = omega arith }
+
+-- and out of it
+leaves : {p y : Cursor} (e : Cursor) → y ≡ joining p (ending e) → Left p e y
+leaves e g = elim (ℕ-discrete (e .status) 0) [ yes z ↦ left z g | no n ↦ left-still n (ap (λ (q : Cursor). q .status) g) ]
 
 -- ---- what never fails: rounds, and what may be left out
 module _ {x : Input} where
@@ -79,6 +91,9 @@ module _ {text w : List ℕ} where
   -- nothing is read where nothing is being read
   pub idle : {g : G} {p : Cursor} {T : List ℕ} → (p .status ≡ READING → ⊥) → Reads g text w p T p T
   idle n = still n refl refl
+
+  pub reads-as : {g : G} {p q r : Cursor} {T U : List ℕ} → p ≡ q → Reads g text w p T r U → Reads g text w q T r U
+  reads-as e y = rw e at y
 
   pub stay : {g : G} {p : Cursor} {T : List ℕ} {r : Cursor} {U : List ℕ} → Reads g text w p T r U → (p .status ≡ READING → ⊥) → (r ≡ p) × (U ≡ T)
   stay (still n e f) h = (e, f)
@@ -166,24 +181,30 @@ module _ {text w : List ℕ} where
   fine = never-failed many-never
 
   -- a rule: gone into, read, and gone out of
-  pub by-rule : (r : R) {p q q′ y : Cursor} {d : ℕ} {T U : List ℕ} → d ≡ nests r → p .status ≡ READING → q ≡ entered d p → Reads (body r) text w q T q′ U → Left p q′ y → Reads (rule r) text w p T y U
+  ruled-by : (r : R) {p e y : Cursor} {n : ℕ} {T U : List ℕ} → Upto (LIMIT + 1) n (p .nest + nests r) → p .status ≡ READING → Reads (body r) text w (begun (p .at) (p .count) n) T e U → Left p e y
+      → Reads (rule r) text w p T y U
   unfolding leave
-  by-rule r {p} {q} {q′} {y} {d} {T} {U} n z i u l = reads z (λ s v. start s v (rw i at u))
+  ruled-by r m z (still h e f) l = absurd (h refl)
+  ruled-by r {p} {e} {y} {n} {T} {U} m z (reads _ k) l = reads z (λ s v. go v (k (enter s) (represents-enter n v)) l)
     where
-      deep : entered d p .nest ≡ min (p .nest + nests r) (LIMIT + 1)
-      deep = rw n refl
+      go : {s : S} → Represents p s → Result (body r) text w (begun (p .at) (p .count) n) (enter s) T e U → Left p e y → Result (rule r) text w p s T y U
+      go v (matched t z′ m′ v′ c f) (left-still h i) = absurd (h z′)
+      go v (matched t z′ m′ v′ c f) (left _ i) = matched _ (status-as i z′) (ap (λ (q : Cursor). q .nest) i) (seen-as i (represents-leave v v′)) (attempt-rule m c) f
+      go v (failed z′ c f) (left-still h i) = failed (i ∙ z′) (attempt-rule m c) f
+      go v (failed z′ c f) (left z″ i) = clash 1 0 z′ z″ (omega arith)
+      go v (exceeded z′ c) (left-still h i) = exceeded (i ∙ z′) (exceeds-rule m c)
+      go v (exceeded z′ c) (left z″ i) = clash 2 0 z′ z″ (omega arith)
 
-      go : {s : S} → Represents p s → Result (body r) text w (entered d p) (enter s) T q′ U → Left p q′ y → Result (rule r) text w p s T y U
-      go v (matched t z′ m v′ c f) (left-still h e) = absurd (h z′)
-      go v (matched t z′ m v′ c f) (left _ e) = matched _ (status-as e z′) (ap (λ (q : Cursor). q .nest) e) (seen-as e (represents-leave v v′)) (attempt-rule deep c) f
-      go v (failed z′ c f) (left-still h e) = failed (status-as e z′) (attempt-rule deep c) f
-      go v (failed z′ c f) (left z″ e) = clash 1 0 z′ z″ (omega arith)
-      go v (exceeded z′ c) (left-still h e) = exceeded (status-as e z′) (exceeds-rule deep c)
-      go v (exceeded z′ c) (left z″ e) = clash 2 0 z′ z″ (omega arith)
+  pub by-rule : (r : R) {p q q′ y : Cursor} {d : ℕ} {T U : List ℕ} → d ≡ nests r → p .status ≡ READING → q ≡ entered d p → Reads (body r) text w q T q′ U → Left p q′ y → Reads (rule r) text w p T y U
+  by-rule r {p} {d = d} e z i u l = ruled-by r (record { upto = rw (← e) (omega arith) }) z (rw (i, begun-in p d z) at u) l
 
-      start : (s : S) → Represents p s → Reads (body r) text w (entered d p) T q′ U → Result (rule r) text w p s T y U
-      start s v (still h e f) = absurd (h z)
-      start s v (reads _ k) = go v (k (enter s) (represents-enter d v)) l
+  -- a rule whose inside is a function of its own
+  pub by-part : (r : R) {p y : Cursor} {q : Part} {n : ℕ} {T U : List ℕ} → Upto (LIMIT + 1) n (p .nest + nests r) → p .status ≡ READING → Inside r text w (p .at) (p .count) n T q U → y ≡ joining p q
+      → Reads (rule r) text w p T y U
+  by-part r m z (inside e u f) g = ruled-by r m z u (leaves e (rw f at g))
+
+  pub inside-by : {r : R} {s e : Cursor} {q : Part} {i c n : ℕ} {T U : List ℕ} → s ≡ begun i c n → Reads (body r) text w s T e U → q ≡ ending e → Inside r text w i c n T q U
+  inside-by {e = e} i u f = inside e (rw i at u) f
 
   -- ---- by the next token
   -- the first alternative alone, where the second cannot begin so
@@ -196,6 +217,11 @@ module _ {text w : List ℕ} where
   -- the second alone, where the first cannot
   pub pass : {k : ℕ} {g h : G} {p q : Cursor} {T U : List ℕ} → k ≡ tokenAt w (p .at) .kind → Absent k (firsts g) → Yes (not (empties g) && sane? solid g) → Reads h text w p T q U → Reads (g or h) text w p T q U
   pass e a y u = turned (λ s v. let c = missed text w e a y v in becomes (λ o d. attempt-or-else c d) (exceeds-or-right (c .derived))) u
+
+  -- no round, where it cannot begin so
+  pub many-miss : {k : ℕ} {g : G} {p : Cursor} {T : List ℕ} → k ≡ tokenAt w (p .at) .kind → Absent k (firsts g) → Yes (not (empties g) && sane? solid g) → Reads (many g) text w p T p T
+  many-miss {p = p} e a y =
+      elim (ℕ-discrete (p .status) 0) [ yes z ↦ reads z (λ s v. matched s z refl v (attempt-no-more (missed text w e a y v)) (λ H. H)) | no n ↦ idle n ]
 
   -- ---- a wrapper's contract, as a reader's
   pub one-put : {g : G} {p r : Cursor} {T U : List ℕ} → Puts g w p T r U → Reads g text w p T r U

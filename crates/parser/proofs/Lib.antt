@@ -10,6 +10,7 @@ pub mod Shapes
 pub mod Steps
 pub mod Prefixes
 pub mod Levels
+pub mod Operands
 pub mod Finish
 pub mod Uncapped
 pub mod Reading

@@ -1,15 +1,21 @@
 -- The invariant of a loop that reads `many g`, and its laws. Assumes nothing.
-use mathlib.Core.Path.{_≡_, refl}
-use mathlib.Core.Bool.{false}
+use mathlib.Core.Path.{_≡_, refl, sym, _∙_}
+use mathlib.Core.Bool.{false, not, _&&_}
 use mathlib.Core.List.{List}
 use Prim.Native.Nat.{ℕ}
 use native.Mathlib.Omega.{arith}
+use lib.Dec.{T as Yes}
 use lib.ListN.{length}
+use Rattle.patterns.proofs.Tests.{and-l, and-r}
+use Rattle.tables.specs.Tables.{tokenAt}
+use Rattle.grammar.proofs.Progress.{sane?}
+use Rattle.grammar.proofs.Whole.{solid}
+use Rattle.grammar.proofs.First.{empties, firsts, Absent, absent?, absent-of}
 use Rattle.grammar.specs.Derive.{G, many, S}
 use Rattle.parser.specs.Read.{READING, FAILED, Represents, Result, matched, failed, exceeded, Reads, still, reads}
 use Rattle.parser.specs.declared.cursor.Cursor.{Cursor}
 use Rattle.parser.proofs.Attempts.{attempt-no-more, attempt-one-more, exceeds-now, exceeds-later}
-use Rattle.parser.proofs.Laws.{clash, idle, joined}
+use Rattle.parser.proofs.Laws.{clash, idle, joined, many-miss}
 use Rattle.parser.proofs.Falls.{Ahead, on, _and-on_, at-here, weaken}
 
 -- so many rounds after p₀ and T₀: what `many g` reads from there on it reads from p₀; how far on that is; the table's length
@@ -51,6 +57,16 @@ module _ {text w : List ℕ} where
       last : Reads g text w p T q U → Reads (many g) text w p T p U
       last (still n e f) = absurd (n z)
       last (reads _ l) = reads z (λ s v. none-more s v (l s v))
+
+  -- where none can begin so, too
+  pub rounds-miss : {k : ℕ} {g : G} {p₀ p : Cursor} {T₀ T : List ℕ} → Looping text w g p₀ T₀ p T → k ≡ tokenAt w (p .at) .kind → Absent k (firsts g) → Yes (not (empties g) && sane? solid g)
+      → Reads (many g) text w p₀ T₀ p T
+  rounds-miss {p = p} {T = T} L e a y = L .rounds p T (many-miss e a y)
+
+  pub rounds-before : {k j : ℕ} {g : G} {p₀ p : Cursor} {T₀ T : List ℕ} → Looping text w g p₀ T₀ p T → k ≡ tokenAt w (p .at) .kind → k ≡ j → Yes (absent? j (firsts g) && (not (empties g) && sane? solid g))
+      → Reads (many g) text w p₀ T₀ p T
+  rounds-before {j = j} {g = g} L e f y =
+      rounds-miss L (sym f ∙ e) (absent-of j (firsts g) (and-l (absent? j (firsts g)) _ y)) (and-r (absent? j (firsts g)) _ y)
 
   -- and so is a cursor that is not reading
   pub rounds-off : {g : G} {p₀ p : Cursor} {T₀ T : List ℕ} → Looping text w g p₀ T₀ p T → (p .status ≡ READING → ⊥) → Reads (many g) text w p₀ T₀ p T

@@ -2,9 +2,9 @@
 use mathlib.Core.Path.{_≡_, refl, sym, ap, _∙_}
 use mathlib.Core.Bool.{Bool, true, false, cond}
 use mathlib.Core.List.{List}
-use Prim.Native.Nat.{ℕ, zero, suc, pred, _/_, _<_, _≤_}
+use Prim.Native.Nat.{ℕ, zero, suc, pred, _+_, _/_, _<_, _≤_}
 use native.Mathlib.Omega.{arith}
-use native.Mathlib.Decide.{ℕ-discrete}
+use native.Mathlib.Decide.{ℕ-discrete, decLt}
 use lib.Dec.{eqb}
 use lib.ListN.{length}
 use borrow.Author.Tests.{eq-eqb, ne-eqb}
@@ -46,6 +46,14 @@ pub record Bounds (start end children value : ℕ) (T : List ℕ) : Type 0 where
 -- past the last there is none
 pub past-all : (w : List ℕ) (i : ℕ) {n k : ℕ} → n ≡ length w / 16 → n ≤ i → 1 ≤ k → tokenAt w i .kind ≡ k → ⊥
 past-all w i e h l q = omega (arith, number-none 16 i w 0 1 (omega arith))
+
+-- the one after i; at the largest number there is none
+pub token-after : (w : List ℕ) {i n k : ℕ} → length w < 0x1_0000_0000_0000_0000 → i < 0x1_0000_0000_0000_0000 → n ≡ up MAX64 i → k ≡ tokenAt w n .kind → k ≡ tokenAt w (i + 1) .kind
+token-after w {i} {n} h l e f =
+    elim (decLt i MAX64) [
+      | yes b ↦ let g : n ≡ i + 1 = omega arith in rw g at f
+      | no b ↦ omega (arith, f, number-none 16 n w 0 1 (omega arith), number-none 16 (i + 1) w 0 1 (omega arith))
+    ]
 
 next-token : (text w : List ℕ) {p : Cursor} {s : S} → Represents p s → token (input text w) (s .at) ≡ tokenAt w (p .at)
 next-token text w {s = s} v = tokens-at w (s .at) ∙ ap (tokenAt w) (sym (v .at))

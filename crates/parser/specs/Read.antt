@@ -4,10 +4,11 @@ use mathlib.Core.List.{List}
 use Prim.Native.Nat.{ℕ, _<_, _≤_, min}
 use lib.ListN.{length}
 use Rattle.tables.specs.Tables.{Node, laid}
-use Rattle.grammar.specs.Derive.{Input, G, S, Out, got, none, Derives, Takes}
+use Rattle.grammar.specs.Derive.{Input, R, G, S, Out, got, none, Derives, Takes}
 use Rattle.grammar.specs.Grammar.{body, nests}
 use Rattle.parser.specs.Parse.{input, MAX16, MAX64, entryOf}
 use Rattle.parser.specs.declared.cursor.Cursor.{Cursor}
+use Rattle.parser.specs.declared.cursor.Part.{Part}
 
 -- ---- attempts
 
@@ -88,6 +89,20 @@ pub data Step (g : G) (w : List ℕ) (p r : Cursor) : Type 0 where
 pub data Free (g : G) (p r : Cursor) : Type 0 where
   free : ((text w T : List ℕ) → Reads g text w p T r T) → Free g p r
 
--- at the first token
+-- ---- rules
+-- at the first token of a rule: the token i, after c nodes, at nest n
+abbrev pub begun : ℕ → ℕ → ℕ → Cursor
+begun i c n =
+    record { at = i; count = c; nest = n; status = READING; first = i; parts = 0; mark = 0; from = 0; to = 0 }
+
+-- what a rule that ends so is to the construct around it
+abbrev pub ending : Cursor → Part
+ending e = record { at = e .at; count = e .count; from = e .from; to = e .to; status = e .status }
+
+-- a reader of the inside of the rule r, from the token i on, after c nodes, at nest n: it has read the part q
+pub data Inside (r : R) (text w : List ℕ) (i c n : ℕ) (T : List ℕ) (q : Part) (U : List ℕ) : Type 0 where
+  inside : (e : Cursor) → Reads (body r) text w (begun i c n) T e U → q ≡ ending e → Inside r text w i c n T q U
+
+-- at the first token of a text
 abbrev pub start : Cursor
-start = record { at = 0; count = 0; nest = 0; status = READING; first = 0; parts = 0; mark = 0; from = 0; to = 0 }
+start = begun 0 0 0

@@ -6,12 +6,13 @@ use Prim.Native.Nat.{ℕ, zero, suc, _+_, _/_, _<_, _≤_, min}
 use lib.Dec.{eqb}
 use lib.ListN.{length}
 use Rattle.tables.specs.Tables.{encodeNode, tokenAt, stored}
-use Rattle.tables.specs.TokenKinds.{NOT, MINUS}
+use Rattle.tables.specs.TokenKinds.{NUMBER, IDENT, NOT, MINUS, LPAREN, LBRACE, LBRACK, DOT}
 use Rattle.grammar.specs.Derive.{unary}
 use Rattle.grammar.specs.Grammar.{body}
 use Rattle.parser.specs.Parse.{MAX16, MAX64}
-use Rattle.parser.specs.Read.{LIMIT, READING, FAILED, DEEP, Reads}
+use Rattle.parser.specs.Read.{LIMIT, READING, FAILED, DEEP, Reads, ending}
 use Rattle.parser.specs.declared.cursor.Cursor.{Cursor}
+use Rattle.parser.specs.declared.cursor.Part.{Part}
 
 -- a token's kind is not 0: of 0 nothing is promised
 abbrev pub Wanted : ℕ → Type 0 → Type 0
@@ -75,12 +76,15 @@ abbrev pub entered : ℕ → Cursor → Cursor
 entered d p =
     record { at = p .at; count = p .count; nest = min (p .nest + d) (LIMIT + 1); status = p .status; first = p .at; parts = 0; mark = 0; from = 0; to = 0 }
 
--- out of it again: what q gathered is one part more of what p did
+-- p with what a rule has read as one part more
+abbrev pub joining : Cursor → Part → Cursor
+joining p q =
+    record { at = q .at; count = q .count; nest = p .nest; status = q .status; first = p .first; parts = up MAX16 (p .parts); mark = p .mark; from = cond (eqb (p .parts) 0) (q .from) (p .from); to = q .to }
+
+-- out of a rule again: what q gathered is one part more of what p did
 pub data Left (p q r : Cursor) : Type 0 where
-  left-still : (q .status ≡ READING → ⊥) → r ≡ q → Left p q r
-  left : q .status ≡ READING
-      → r ≡ record { at = q .at; count = q .count; nest = p .nest; status = q .status; first = p .first; parts = up MAX16 (p .parts); mark = p .mark; from = cond (eqb (p .parts) 0) (q .from) (p .from); to = q .to }
-      → Left p q r
+  left-still : (q .status ≡ READING → ⊥) → r .status ≡ q .status → Left p q r
+  left : q .status ≡ READING → r ≡ joining p (ending q) → Left p q r
 
 -- another nest
 abbrev pub at-nest : ℕ → Cursor → Cursor
@@ -96,6 +100,21 @@ pub data Agreed (n : ℕ) (e q r : Cursor) : Type 0 where
   agrees-not : (q .status ≡ READING → ⊥) → r ≡ q → Agreed n e q r
   agrees-else : q .status ≡ READING → (e .at ≡ q .at → ⊥) → r .status ≡ FAILED → Agreed n e q r
   agrees : q .status ≡ READING → e .at ≡ q .at → r ≡ at-nest n q → Agreed n e q r
+
+-- ---- operands
+
+-- a token that continues no name or numeral before it
+pub record Over (k : ℕ) : Type 0 where
+  pub no-call : k ≡ LPAREN → ⊥
+  pub no-field : k ≡ DOT → ⊥
+  pub no-index : k ≡ LBRACK → ⊥
+  pub no-struct : k ≡ LBRACE → ⊥
+
+-- the next two tokens' kinds: a name alone, a numeral alone, or something else
+pub data Plain (k j r : ℕ) : Type 0 where
+  plain-name : r ≡ 1 → k ≡ IDENT → Over j → Plain k j r
+  plain-numeral : r ≡ 2 → k ≡ NUMBER → Over j → Plain k j r
+  not-plain : r ≡ 0 → Plain k j r
 
 -- ---- prefixes
 

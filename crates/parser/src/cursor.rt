@@ -9,8 +9,8 @@ ghost use Rattle.grammar.specs.Derive.{step, take, leaf, index, literal, count,
 ghost use Rattle.grammar.specs.Kinds.{Call};
 ghost use Rattle.grammar.specs.Grammar.{tok, op, opt, name, namedType, numeral, whole, operands, spanless};
 ghost use Rattle.parser.specs.Parse.{MAX16, MAX64};
-ghost use Rattle.parser.specs.Read.{Reads, Puts, Grown, Step, Free};
-ghost use Rattle.parser.specs.Steps.{Wanted, Halted, Advanced, Closed, Agreed, Restarted, Left, with-part, fresh-at, signed-at, entered, shallow, up};
+ghost use Rattle.parser.specs.Read.{Reads, Puts, Grown, Step, Free, begun, ending};
+ghost use Rattle.parser.specs.Steps.{Wanted, Halted, Advanced, Closed, Agreed, Restarted, Left, with-part, fresh-at, signed-at, entered, shallow, joining, up};
 use grammar::node_kind;
 use patterns::is_word;
 use tables::node::put_node;
@@ -27,19 +27,29 @@ pub const DEEP: u8 = 2;
 // The deepest nest at which a token may be taken.
 const LIMIT: u8 = 64;
 
+// The largest fields first, so that it has no gaps.
 pub struct Cursor {
     // The next token, and how many nodes there are.
     pub at: usize,
     pub count: usize,
+    // What the construct at hand has gathered: its first token, its mark, its parts, the start of the first part and the end of the last.
+    pub first: usize,
+    pub mark: u64,
+    pub parts: u16,
+    pub from: u16,
+    pub to: u16,
     // How deep, and READING, FAILED or DEEP.
     pub nest: u8,
     pub status: u8,
-    // What the construct at hand has gathered: its first token, its parts, its mark, the start of the first part and the end of the last.
-    pub first: usize,
-    pub parts: u16,
-    pub mark: u64,
+}
+
+// What a rule has read: where it ended, how many nodes there are then, and the part that it is of what is around it.
+pub struct Part {
+    pub at: usize,
+    pub count: usize,
     pub from: u16,
     pub to: u16,
+    pub status: u8,
 }
 
 impl Cursor {
@@ -48,6 +58,13 @@ impl Cursor {
         ensures { λ r. ⌜ r ≡ tokenAt (now (tokens .entry)) (self .at) .kind ⌝ }
     {
         token::kind(tokens, self.at)
+    }
+
+    // The kind of the token after the next, 0 past the last.
+    pub fn second(self, tokens: &[u8]) -> u8
+        ensures { λ r. ⌜ r ≡ tokenAt (now (tokens .entry)) (self .at + 1) .kind ⌝ }
+    {
+        token::kind(tokens, next(self.at))
     }
 
     // Another status, for a cursor that was reading.
@@ -283,6 +300,47 @@ impl Cursor {
         self.close(nodes, kind, 0, 0)
     }
 
+    // At the first token of a rule.
+    pub fn begin(at: usize, count: usize, nest: u8) -> Cursor
+        ensures { λ r. ⌜ r ≡ begun at count nest ⌝ }
+    {
+        Cursor {
+            at: at,
+            count: count,
+            first: at,
+            mark: 0,
+            parts: 0,
+            from: 0,
+            to: 0,
+            nest: nest,
+            status: READING,
+        }
+    }
+
+    // Past the rule: what it has read.
+    pub fn ended(self) -> Part
+        ensures { λ r. ⌜ r ≡ ending self ⌝ }
+    {
+        Part {
+            at: self.at,
+            count: self.count,
+            from: self.from,
+            to: self.to,
+            status: self.status,
+        }
+    }
+
+    // With what a rule has read as one part more.
+    pub fn join(self, q: Part) -> Cursor
+        ensures { λ r. ⌜ r ≡ joining self q ⌝ }
+    {
+        let mut p = self.part(q.from, q.to);
+        p.at = q.at;
+        p.count = q.count;
+        p.status = q.status;
+        p
+    }
+
     // At this token, with nothing gathered yet.
     fn fresh(mut self, at: usize) -> Cursor
         ensures { λ r. ⌜ r ≡ fresh-at at self ⌝ }
@@ -399,7 +457,7 @@ fn choose(n: u16, a: u16, b: u16) -> u16
 }
 
 // So much deeper; past the limit nests are not told apart.
-fn inner(nest: u8, nests: u8) -> u8
+pub fn inner(nest: u8, nests: u8) -> u8
     ensures { λ r. ⌜ r ≡ min (nest + nests) 65 ⌝ }
 {
     if nest > LIMIT {

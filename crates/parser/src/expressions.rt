@@ -1,11 +1,13 @@
 // Expressions: atoms, postfixes, prefixes, casts, and the binary levels.
 ghost use Rattle.grammar.specs.Derive.{rule, expr, level, unary, many, _&_, _or_};
 ghost use Rattle.grammar.specs.Grammar.{another, list, field, fields, cast, link, operator, atom, postfix, newExpr, structLiteral, arrayRepeat, arrayLiteral, parenOrTuple, repeatCount};
-ghost use Rattle.parser.specs.Read.{Reads, Puts, Step};
-ghost use Rattle.parser.specs.Steps.{Prefix, Prefixes, Unwound};
+ghost use Rattle.parser.specs.Read.{Reads, Puts, Step, Inside};
+ghost use Rattle.parser.specs.Steps.{Plain, Prefix, Prefixes, Unwound};
 use crate::cursor::Cursor;
 use crate::cursor::FAILED;
+use crate::cursor::Part;
 use crate::cursor::READING;
+use crate::cursor::inner;
 use crate::types::alloc_type_expr;
 use grammar::node_kind;
 use tables::token;
@@ -35,28 +37,58 @@ pub fn expr(text: &[u8], tokens: &[u8], nodes: &mut [u8], cursor: Cursor) -> Cur
     if cursor.status != READING {
         return cursor;
     }
-    let p = cursor.enter(1);
-    let p = level(text, tokens, nodes, p, 5);
-    p.leave(cursor)
+    let q = level_at(
+        text,
+        tokens,
+        nodes,
+        cursor.at,
+        cursor.count,
+        inner(cursor.nest, 1),
+        5,
+    );
+    cursor.join(q)
 }
 
-// The nth binary level, tightest first, over casts: each level goes on from what the level below has read.
+// The nth binary level, tightest first.
 pub(crate) fn level(text: &[u8], tokens: &[u8], nodes: &mut [u8], cursor: Cursor, n: u8) -> Cursor
     ensures { λ r. ⌜ Reads (rule (level n)) (now (text .entry)) (now (tokens .entry)) cursor (now (nodes .entry)) r (now (nodes .exit)) ⌝ }
 {
     if cursor.status != READING {
         return cursor;
     }
-    let start = cursor.enter(0);
+    let q = level_at(text, tokens, nodes, cursor.at, cursor.count, cursor.nest, n);
+    cursor.join(q)
+}
+
+// Over casts each level goes on from what the level below has read, until no operator stands there.
+pub(crate) fn level_at(
+    text: &[u8],
+    tokens: &[u8],
+    nodes: &mut [u8],
+    at: usize,
+    count: usize,
+    nest: u8,
+    n: u8,
+) -> Part
+    ensures { λ r. ⌜ Inside (level n) (now (text .entry)) (now (tokens .entry)) at count nest (now (nodes .entry)) r (now (nodes .exit)) ⌝ }
+{
+    let start = Cursor::begin(at, count, nest);
     let p = unary(text, tokens, nodes, start);
     let p = casts(text, tokens, nodes, p);
     let mut p = p;
     let mut i = 0;
     while i < n {
+        let k = p.peek(tokens);
+        if k < token_type::AND_AND {
+            return p.ended();
+        }
+        if k > token_type::MOD {
+            return p.ended();
+        }
         p = chain(text, tokens, nodes, p, i);
         i = i + 1;
     }
-    p.leave(cursor)
+    p.ended()
 }
 
 // Operators of a level, each with all that stands left of it.
@@ -66,6 +98,9 @@ fn chain(text: &[u8], tokens: &[u8], nodes: &mut [u8], cursor: Cursor, n: u8) ->
     let mut p = cursor;
     while p.status == READING {
         let q = operator(tokens, p, n);
+        if q.status == FAILED {
+            return p;
+        }
         let q = level(text, tokens, nodes, q, n);
         let q = q.operands(nodes, node_kind::BINARY);
         if q.status == FAILED {
@@ -134,6 +169,10 @@ fn casts(text: &[u8], tokens: &[u8], nodes: &mut [u8], cursor: Cursor) -> Cursor
 {
     let mut p = cursor;
     while p.status == READING {
+        let k = p.peek(tokens);
+        if k != AS {
+            return p;
+        }
         let q = p.take(tokens, AS);
         let q = q.named(text, tokens, nodes);
         let q = q.operands(nodes, node_kind::CAST);
@@ -187,22 +226,65 @@ fn unwind(tokens: &[u8], nodes: &mut [u8], start: Cursor, end: usize, operand: C
     p
 }
 
-// Prefixes by a loop: the operand is read past them all.
 fn unary(text: &[u8], tokens: &[u8], nodes: &mut [u8], cursor: Cursor) -> Cursor
     ensures { λ r. ⌜ Reads (rule unary) (now (text .entry)) (now (tokens .entry)) cursor (now (nodes .entry)) r (now (nodes .exit)) ⌝ }
 {
     if cursor.status != READING {
         return cursor;
     }
-    let start = cursor.enter(0);
+    let plain = plain_operand(cursor.peek(tokens), cursor.second(tokens));
+    if plain == 1 {
+        return cursor.leaf(tokens, nodes, IDENTIFIER, node_kind::IDENTIFIER, 0);
+    }
+    if plain == 2 {
+        return cursor.literal(tokens, nodes);
+    }
+    let q = unary_at(text, tokens, nodes, cursor.at, cursor.count, cursor.nest);
+    cursor.join(q)
+}
+
+// 1 for a name and 2 for a numeral, where the second token continues neither; else 0.
+fn plain_operand(first: u8, second: u8) -> u8
+    ensures { λ r. ⌜ Plain first second r ⌝ }
+{
+    if second == L_PAREN {
+        return 0;
+    }
+    if second == DOT {
+        return 0;
+    }
+    if second == L_BRACK {
+        return 0;
+    }
+    if second == L_BRACE {
+        return 0;
+    }
+    if first == IDENTIFIER {
+        return 1;
+    }
+    if first == LITERAL_NUMBER { 2 } else { 0 }
+}
+
+// Prefixes by a loop: the operand is read past them all.
+pub(crate) fn unary_at(
+    text: &[u8],
+    tokens: &[u8],
+    nodes: &mut [u8],
+    at: usize,
+    count: usize,
+    nest: u8,
+) -> Part
+    ensures { λ r. ⌜ Inside unary (now (text .entry)) (now (tokens .entry)) at count nest (now (nodes .entry)) r (now (nodes .exit)) ⌝ }
+{
+    let start = Cursor::begin(at, count, nest);
     let end = prefixes(tokens, start.at);
     let p = start.operand(end);
     if p.status != READING {
-        return p.leave(cursor);
+        return p.ended();
     }
     let p = postfixed(text, tokens, nodes, p);
     let p = unwind(tokens, nodes, start, end, p);
-    p.leave(cursor)
+    p.ended()
 }
 
 fn postfixed(text: &[u8], tokens: &[u8], nodes: &mut [u8], cursor: Cursor) -> Cursor
@@ -246,6 +328,9 @@ fn postfix_op(text: &[u8], tokens: &[u8], nodes: &mut [u8], cursor: Cursor) -> C
         return q.operands(nodes, node_kind::MEMBER);
     }
     let p = cursor.take(tokens, L_BRACK);
+    if p.status != READING {
+        return p;
+    }
     let p = expr(text, tokens, nodes, p);
     let p = p.take(tokens, R_BRACK);
     p.operands(nodes, node_kind::INDEX)
@@ -255,6 +340,10 @@ fn arguments(text: &[u8], tokens: &[u8], nodes: &mut [u8], cursor: Cursor) -> Cu
     ensures { λ r. ⌜ Reads (list (rule expr)) (now (text .entry)) (now (tokens .entry)) cursor (now (nodes .entry)) r (now (nodes .exit)) ⌝ }
 {
     if cursor.status != READING {
+        return cursor;
+    }
+    let k = cursor.peek(tokens);
+    if k == R_PAREN {
         return cursor;
     }
     let p = expr(text, tokens, nodes, cursor);
@@ -270,6 +359,10 @@ fn exprs(text: &[u8], tokens: &[u8], nodes: &mut [u8], cursor: Cursor) -> Cursor
 {
     let mut p = cursor;
     while p.status == READING {
+        let k = p.peek(tokens);
+        if k != COMMA {
+            return p;
+        }
         let q = p.take(tokens, COMMA);
         let q = expr(text, tokens, nodes, q);
         if q.status == FAILED {
@@ -287,6 +380,13 @@ fn atom(text: &[u8], tokens: &[u8], nodes: &mut [u8], cursor: Cursor) -> Cursor
         return cursor;
     }
     let k = cursor.peek(tokens);
+    if k == IDENTIFIER {
+        let p = struct_literal(text, tokens, nodes, cursor);
+        if p.status != FAILED {
+            return p;
+        }
+        return cursor.leaf(tokens, nodes, IDENTIFIER, node_kind::IDENTIFIER, 0);
+    }
     if k == LITERAL_NUMBER {
         return cursor.literal(tokens, nodes);
     }
@@ -298,13 +398,6 @@ fn atom(text: &[u8], tokens: &[u8], nodes: &mut [u8], cursor: Cursor) -> Cursor
     }
     if k == NEW {
         return new_expr(text, tokens, nodes, cursor);
-    }
-    if k == IDENTIFIER {
-        let p = struct_literal(text, tokens, nodes, cursor);
-        if p.status != FAILED {
-            return p;
-        }
-        return cursor.leaf(tokens, nodes, IDENTIFIER, node_kind::IDENTIFIER, 0);
     }
     if k == L_BRACK {
         return array(text, tokens, nodes, cursor);
@@ -334,6 +427,9 @@ fn struct_literal(text: &[u8], tokens: &[u8], nodes: &mut [u8], cursor: Cursor) 
     }
     let p = cursor.spanned_ident(tokens, nodes);
     let p = p.take(tokens, L_BRACE);
+    if p.status != READING {
+        return p;
+    }
     let p = struct_literal_fields(text, tokens, nodes, p);
     let p = p.take(tokens, R_BRACE);
     p.whole(tokens, nodes, node_kind::STRUCT_LITERAL)

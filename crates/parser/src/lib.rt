@@ -27,17 +27,7 @@ pub enum Parsed {
 fn read(text: &[u8], tokens: &[u8], nodes: &mut [u8]) -> Cursor
     ensures { λ r. ⌜ Reads file (now (text .entry)) (now (tokens .entry)) start (now (nodes .entry)) r (now (nodes .exit)) ⌝ }
 {
-    let first = Cursor {
-        at: 0,
-        count: 0,
-        nest: 0,
-        status: READING,
-        first: 0,
-        parts: 0,
-        mark: 0,
-        from: 0,
-        to: 0,
-    };
+    let first = Cursor::begin(0, 0, 0);
     items(text, tokens, nodes, first)
 }
 

@@ -2,10 +2,12 @@
 ghost use Rattle.grammar.specs.Derive.{rule, expr, stmt, forStep, many};
 ghost use Rattle.grammar.specs.Grammar.{tok, opt, typed, condition, letStmt, constDef, action, assigned, finish, forStmt, forInit, elsePart, blockStmt, ifStmt, loopStmt, whileStmt, returnStmt, statement};
 ghost use Rattle.tables.specs.TokenKinds.{SEMI};
-ghost use Rattle.parser.specs.Read.{Reads, Puts};
+ghost use Rattle.parser.specs.Read.{Reads, Puts, Inside};
 use crate::cursor::Cursor;
 use crate::cursor::FAILED;
+use crate::cursor::Part;
 use crate::cursor::READING;
+use crate::cursor::inner;
 use crate::expressions::expr;
 use crate::let_pattern::pattern;
 use crate::types::type_expr;
@@ -34,53 +36,69 @@ fn stmt(text: &[u8], tokens: &[u8], nodes: &mut [u8], cursor: Cursor) -> Cursor
     if cursor.status != READING {
         return cursor;
     }
-    let p = cursor.enter(1);
-    let p = choice(text, tokens, nodes, p);
-    p.leave(cursor)
+    let q = stmt_at(
+        text,
+        tokens,
+        nodes,
+        cursor.at,
+        cursor.count,
+        inner(cursor.nest, 1),
+    );
+    cursor.join(q)
 }
 
-fn choice(text: &[u8], tokens: &[u8], nodes: &mut [u8], cursor: Cursor) -> Cursor
-    ensures { λ r. ⌜ Reads statement (now (text .entry)) (now (tokens .entry)) cursor (now (nodes .entry)) r (now (nodes .exit)) ⌝ }
+// The inside of a statement: its first token says which.
+fn stmt_at(text: &[u8], tokens: &[u8], nodes: &mut [u8], at: usize, count: usize, nest: u8) -> Part
+    ensures { λ r. ⌜ Inside stmt (now (text .entry)) (now (tokens .entry)) at count nest (now (nodes .entry)) r (now (nodes .exit)) ⌝ }
 {
-    if cursor.status != READING {
-        return cursor;
-    }
-    let k = cursor.peek(tokens);
+    let start = Cursor::begin(at, count, nest);
+    let k = start.peek(tokens);
     if k == L_BRACE {
-        return block(text, tokens, nodes, cursor);
+        let p = block(text, tokens, nodes, start);
+        return p.ended();
     }
     if k == IF {
-        return if_stmt(text, tokens, nodes, cursor);
+        let p = if_stmt(text, tokens, nodes, start);
+        return p.ended();
     }
     if k == LOOP {
-        return loop_stmt(text, tokens, nodes, cursor);
+        let p = loop_stmt(text, tokens, nodes, start);
+        return p.ended();
     }
     if k == WHILE {
-        return while_stmt(text, tokens, nodes, cursor);
+        let p = while_stmt(text, tokens, nodes, start);
+        return p.ended();
     }
     if k == FOR {
-        return for_stmt(text, tokens, nodes, cursor);
+        let p = for_stmt(text, tokens, nodes, start);
+        return p.ended();
     }
     if k == BREAK {
-        let p = cursor.take(tokens, BREAK);
+        let p = start.take(tokens, BREAK);
         let p = p.take(tokens, SEMICOLON);
-        return p.whole(tokens, nodes, node_kind::BREAK);
+        let p = p.whole(tokens, nodes, node_kind::BREAK);
+        return p.ended();
     }
     if k == CONTINUE {
-        let p = cursor.take(tokens, CONTINUE);
+        let p = start.take(tokens, CONTINUE);
         let p = p.take(tokens, SEMICOLON);
-        return p.whole(tokens, nodes, node_kind::CONTINUE);
+        let p = p.whole(tokens, nodes, node_kind::CONTINUE);
+        return p.ended();
     }
     if k == LET {
-        return let_stmt(text, tokens, nodes, cursor);
+        let p = let_stmt(text, tokens, nodes, start);
+        return p.ended();
     }
     if k == CONST {
-        return const_def(text, tokens, nodes, cursor);
+        let p = const_def(text, tokens, nodes, start);
+        return p.ended();
     }
     if k == RETURN {
-        return return_stmt(text, tokens, nodes, cursor);
+        let p = return_stmt(text, tokens, nodes, start);
+        return p.ended();
     }
-    assignment_or_expr(text, tokens, nodes, cursor)
+    let p = assignment_or_expr(text, tokens, nodes, start);
+    p.ended()
 }
 
 fn block(text: &[u8], tokens: &[u8], nodes: &mut [u8], cursor: Cursor) -> Cursor
@@ -100,6 +118,10 @@ pub fn stmts(text: &[u8], tokens: &[u8], nodes: &mut [u8], cursor: Cursor) -> Cu
 {
     let mut p = cursor;
     while p.status == READING {
+        let k = p.peek(tokens);
+        if k == R_BRACE {
+            return p;
+        }
         let q = stmt(text, tokens, nodes, p);
         if q.status == FAILED {
             return p;
@@ -126,6 +148,10 @@ fn else_block(text: &[u8], tokens: &[u8], nodes: &mut [u8], cursor: Cursor) -> C
     ensures { λ r. ⌜ Reads elsePart (now (text .entry)) (now (tokens .entry)) cursor (now (nodes .entry)) r (now (nodes .exit)) ⌝ }
 {
     if cursor.status != READING {
+        return cursor;
+    }
+    let k = cursor.peek(tokens);
+    if k != ELSE {
         return cursor;
     }
     let p = cursor.take(tokens, ELSE);
@@ -217,6 +243,10 @@ fn assignment_or_expr(text: &[u8], tokens: &[u8], nodes: &mut [u8], cursor: Curs
 fn assigned(text: &[u8], tokens: &[u8], nodes: &mut [u8], cursor: Cursor) -> Cursor
     ensures { λ r. ⌜ Reads assigned (now (text .entry)) (now (tokens .entry)) cursor (now (nodes .entry)) r (now (nodes .exit)) ⌝ }
 {
+    let k = cursor.peek(tokens);
+    if k != EQ {
+        return cursor;
+    }
     let p = cursor.take(tokens, EQ);
     let p = expr(text, tokens, nodes, p);
     if p.status == FAILED {
@@ -276,6 +306,10 @@ pub fn const_def(text: &[u8], tokens: &[u8], nodes: &mut [u8], cursor: Cursor) -
 fn typed(text: &[u8], tokens: &[u8], nodes: &mut [u8], cursor: Cursor) -> Cursor
     ensures { λ r. ⌜ Reads typed (now (text .entry)) (now (tokens .entry)) cursor (now (nodes .entry)) r (now (nodes .exit)) ⌝ }
 {
+    let k = cursor.peek(tokens);
+    if k != COLON {
+        return cursor;
+    }
     let p = cursor.take(tokens, COLON);
     let p = type_expr(text, tokens, nodes, p);
     let p = p.tick();

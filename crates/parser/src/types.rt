@@ -1,10 +1,12 @@
 // Types, and the types after `new`, which have no arrays.
 ghost use Rattle.grammar.specs.Derive.{rule, type, alloc, _or_};
 ghost use Rattle.grammar.specs.Grammar.{entries, namedType, tupleType, arrayType, size, tupleEnd, stars};
-ghost use Rattle.parser.specs.Read.{Reads, Puts};
+ghost use Rattle.parser.specs.Read.{Reads, Puts, Inside};
 use crate::cursor::Cursor;
 use crate::cursor::FAILED;
+use crate::cursor::Part;
 use crate::cursor::READING;
+use crate::cursor::inner;
 use crate::expressions::expr;
 use grammar::node_kind;
 use tables::token_type::COMMA;
@@ -22,10 +24,25 @@ pub fn type_expr(text: &[u8], tokens: &[u8], nodes: &mut [u8], cursor: Cursor) -
     if cursor.status != READING {
         return cursor;
     }
-    let p = cursor.enter(1);
+    let q = type_at(
+        text,
+        tokens,
+        nodes,
+        cursor.at,
+        cursor.count,
+        inner(cursor.nest, 1),
+    );
+    cursor.join(q)
+}
+
+// The inside of a type.
+fn type_at(text: &[u8], tokens: &[u8], nodes: &mut [u8], at: usize, count: usize, nest: u8) -> Part
+    ensures { λ r. ⌜ Inside type (now (text .entry)) (now (tokens .entry)) at count nest (now (nodes .entry)) r (now (nodes .exit)) ⌝ }
+{
+    let p = Cursor::begin(at, count, nest);
     let p = base_type(text, tokens, nodes, p);
     let p = pointers(tokens, nodes, p);
-    p.leave(cursor)
+    p.ended()
 }
 
 fn base_type(text: &[u8], tokens: &[u8], nodes: &mut [u8], cursor: Cursor) -> Cursor
@@ -133,10 +150,25 @@ pub fn alloc_type_expr(text: &[u8], tokens: &[u8], nodes: &mut [u8], cursor: Cur
     if cursor.status != READING {
         return cursor;
     }
-    let p = cursor.enter(1);
+    let q = alloc_at(
+        text,
+        tokens,
+        nodes,
+        cursor.at,
+        cursor.count,
+        inner(cursor.nest, 1),
+    );
+    cursor.join(q)
+}
+
+// The inside of a type after `new`.
+fn alloc_at(text: &[u8], tokens: &[u8], nodes: &mut [u8], at: usize, count: usize, nest: u8) -> Part
+    ensures { λ r. ⌜ Inside alloc (now (text .entry)) (now (tokens .entry)) at count nest (now (nodes .entry)) r (now (nodes .exit)) ⌝ }
+{
+    let p = Cursor::begin(at, count, nest);
     let p = alloc_base(text, tokens, nodes, p);
     let p = pointers(tokens, nodes, p);
-    p.leave(cursor)
+    p.ended()
 }
 
 fn alloc_base(text: &[u8], tokens: &[u8], nodes: &mut [u8], cursor: Cursor) -> Cursor

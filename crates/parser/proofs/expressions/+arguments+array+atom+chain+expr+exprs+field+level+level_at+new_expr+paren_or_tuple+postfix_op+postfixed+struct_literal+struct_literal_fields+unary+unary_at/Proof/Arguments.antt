@@ -1,0 +1,36 @@
+-- The reader `arguments` of the cycle. Assumes nothing.
+use Rattle.parser.proofs.Reading.{_∙_, ℕ, arith, body, idle, pass, nothing, on, at-here, further, lower, listed, listed-none}
+use Rattle.parser.proofs.cursor.Cursor.peek.Reads as peek-reads
+use Rattle.parser.proofs.cursor.Cursor.skip.Reads as skip-reads
+use Rattle.parser.proofs.expressions.arguments.Reads as arguments
+use Rattle.parser.proofs.expressions.expr.Reads as expr
+use Rattle.parser.proofs.expressions.exprs.Reads as exprs
+use Rattle.parser.proofs.expressions.+arguments+array+atom+chain+expr+exprs+field+level+level_at+new_expr+paren_or_tuple+postfix_op+postfixed+struct_literal+struct_literal_fields+unary+unary_at.Lts-arguments as lts
+use Rattle.parser.proofs.Cycles.{reader-at, reader-below}
+
+abbrev given : ℕ → lts.Claims
+given t = (peek-reads.Asked, peek-reads.Learnt, reader-below 30 t, expr.Post, reader-below 3 t, exprs.Post, skip-reads.Asked, skip-reads.Learnt)
+
+pub arguments-spec : {M : Type 1} (t : ℕ) → lts.Closed (given t) (reader-at 31 t) arguments.Post M
+unfolding body
+arguments-spec t = lts.spec (given t) (reader-at 31 t) arguments.Post
+    -- returns
+    (λ c. let if1 = c .if1 .taken in idle if1)
+    -- peek-requires
+    (λ c κs. tt)
+    -- returns-2
+    (λ c. let if2 = c .if2 .taken in let c1 = c .before in let peek = c1 .peek .ensures in (pass peek (omega (arith, if2)) tt (nothing)))
+    -- expr-requires
+    (λ c κs. let c3 = c .before .before .before in let if1 = c3 .if1 .left in let c8 = c3 .before .before .before .before .before in let pre = c8 .pre in (lower 30 31 (pre .0) if1 (at-here) (omega arith), tt))
+    -- same-length
+    (λ c. let c4 = c .before .before .before .before in let kept1 = c4 .expr .kept .1 .1 .0 in (kept1))
+    -- returns-3
+    (λ c. let if3 = c .if3 .taken in let c4 = c .before .before .before .before in let expr = c4 .expr .ensures in listed-none expr if3)
+    -- exprs-requires
+    (λ c κs. let c5 = c .before .before .before .before .before in let expr = c5 .expr .ensures in let c9 = c5 .before .before .before .before in let if1 = c9 .if1 .left in let c14 = c9 .before .before .before .before .before in let pre = c14 .pre in (further 3 31 (pre .0) if1 (on expr) tt (omega arith), tt))
+    -- skip-requires
+    (λ c κs. tt)
+    -- same-length-2
+    (λ c. let c3 = c .before .before .before in let kept1 = c3 .exprs .kept .1 .1 .0 in let c9 = c3 .before .before .before .before .before .before in let kept2 = c9 .expr .kept .1 .1 .0 in (kept1 ∙ kept2))
+    -- returns-4
+    (λ c. let skip = c .skip .ensures in let c3 = c .before .before .before in let exprs = c3 .exprs .ensures in let c5 = c3 .before .before in let if3 = c5 .if3 .left in let c9 = c5 .before .before .before .before in let expr = c9 .expr .ensures in listed expr if3 exprs skip)

@@ -1,0 +1,30 @@
+-- The reader `while_stmt` of the cycle. Assumes nothing.
+use Rattle.parser.proofs.Reading.{_∙_, ℕ, arith, body, idle, one-put, one-step, _then_, on, on-step, _and-on_, further}
+use Rattle.parser.proofs.cursor.Cursor.take.Reads as take-reads
+use Rattle.parser.proofs.cursor.Cursor.whole.Reads as whole-reads
+use Rattle.parser.proofs.statements.condition.Reads as condition-reads
+use Rattle.parser.proofs.statements.stmt.Reads as stmt
+use Rattle.parser.proofs.statements.while_stmt.Reads as while-stmt
+use Rattle.parser.proofs.statements.+block+else_block+for_stmt+if_stmt+loop_stmt+stmt+stmt_at+stmts+while_stmt.Lts-while_stmt as lts
+use Rattle.parser.proofs.Cycles.{reader-at, reader-below}
+
+abbrev given : ℕ → lts.Claims
+given t = (take-reads.Asked, take-reads.Learnt, condition-reads.Asked, condition-reads.Learnt, reader-below 20 t, stmt.Post, whole-reads.Asked, whole-reads.Learnt)
+
+pub while-stmt-spec : {M : Type 1} (t : ℕ) → lts.Closed (given t) (reader-at 18 t) while-stmt.Post M
+unfolding body
+while-stmt-spec t = lts.spec (given t) (reader-at 18 t) while-stmt.Post
+    -- returns
+    (λ c. let if1 = c .if1 .taken in idle if1)
+    -- take-requires
+    (λ c κs. tt)
+    -- condition-requires
+    (λ c κs. tt)
+    -- stmt-requires
+    (λ c κs. let c3 = c .before .before .before in let condition = c3 .condition .ensures in let c5 = c3 .before .before in let take = c5 .take .ensures in let c6 = c5 .before in let if1 = c6 .if1 .left in let c11 = c6 .before .before .before .before .before in let pre = c11 .pre in (further 20 18 (pre .0) if1 (on-step take and-on on condition) tt (omega arith), tt))
+    -- whole-requires
+    (λ c κs. tt)
+    -- same-length
+    (λ c. let c2 = c .before .before in let kept1 = c2 .whole .kept .1 .1 .0 in let c6 = c2 .before .before .before .before in let kept2 = c6 .stmt .kept .1 .1 .0 in let c10 = c6 .before .before .before .before in let kept3 = c10 .condition .kept .1 .1 .0 in (kept1 ∙ kept2 ∙ kept3))
+    -- returns-2
+    (λ c. let c2 = c .before .before in let whole = c2 .whole .ensures in let c6 = c2 .before .before .before .before in let stmt = c6 .stmt .ensures in let c10 = c6 .before .before .before .before in let condition = c10 .condition .ensures in let c12 = c10 .before .before in let take = c12 .take .ensures in (one-step take) then condition then stmt then (one-put whole))
