@@ -6,6 +6,7 @@ pub mod Total
 pub mod Whole
 pub mod First
 pub mod Added
+pub mod Alike
 pub mod Suffix
 pub mod Trees
 pub mod Forest

@@ -18,16 +18,16 @@ Silent alone = Unit {0}
 Silent done = Unit {0}
 
 -- a token taken, with the nest shifted all through
-record Shifted (x : Input) (i m : ℕ) (g : G) (n k : ℕ) (s : S) : Type 0 where
-  deeper : ℕ
-  was : m ≡ n + deeper
-  is : Takes body x nests i (k + deeper) g k s
+pub record Shifted (x : Input) (i m : ℕ) (g : G) (n k : ℕ) (s : S) : Type 0 where
+  pub deeper : ℕ
+  pub was : m ≡ n + deeper
+  pub is : Takes body x nests i (k + deeper) g k s
 
 module _ {x : Input} where
   along : {g h : G} {i m n k : ℕ} {s t : S} → ((j : ℕ) → Takes body x nests i j g k s → Takes body x nests i j h k t) → Shifted x i m g n k s → Shifted x i m h n k t
   along f r = record { deeper = r .deeper; was = r .was; is = f _ (r .is) }
 
-  shift : {g : G} {i m n : ℕ} {s : S} (k : ℕ) → Takes body x nests i m g n s → Shifted x i m g n k s
+  pub shift : {g : G} {i m n : ℕ} {s : S} (k : ℕ) → Takes body x nests i m g n s → Shifted x i m g n k s
   shift k (here e f h) = record { deeper = 0; was = omega (arith, h); is = here {n = k} e f (omega arith) }
   shift k (and-left t) = along (λ j. and-left) (shift k t)
   shift k (and-right d t) = along (λ j. and-right d) (shift k t)

@@ -1,4 +1,5 @@
 pub mod Attempts
+pub mod Again
 pub mod Cursors
 pub mod Holding
 pub mod Laws
