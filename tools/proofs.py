@@ -207,17 +207,18 @@ def shape(fn, recipe):
         kind = m.group(1) if m else "many"
         r.setdefault("of", {"many": inner.strip("()") if not inner.startswith("(") or inner.count("(") == 1 else inner[1:-1], "list": f"L.another {inner}", "fields": f"L.another (L.field {inner})", "entries": f"L.another {inner}"}[kind])
         r.setdefault("round", run(start, test))
+        look = re.search(r"let k = p\.peek\(tokens\);\n\s+if k (==|!=) ", body[start:test])
+        n = 2 if look else 1
         if kind == "many" and "&" not in fn.grammar:
-            look = re.search(r"let k = p\.peek\(tokens\);\n\s+if k (==|!=) ", body[start:test])
             if look: r.setdefault(later(1), "rounds-miss LOOP =peek (OUT, tt) tt" if look.group(1) == "!=" else "rounds-before LOOP =peek OUT tt")
-            n = 2 if look else 1
             r.setdefault(later(n), "rounds-end LOOP TEST ROUND OUT"); r.setdefault(later(n + 1), "rounds-off LOOP OUT")
         elif kind in ("list", "fields", "entries"):
             law, head, one = ("entries" if kind == "entries" else "listed"), "(" + run(0, start) + ")", "if2" if idle else "if1"
             comma = "" if kind == "entries" else " =skip"
             r.setdefault(later(1), f"{law}-none {head} {one}")
-            r.setdefault(later(2), f"{law}-end {head} {one} LOOP TEST ROUND OUT{comma}")
-            r.setdefault(later(3), f"{law}-off {head} {one} LOOP OUT")
+            if look: r.setdefault(later(2), f"{law}-miss tt {head} {one} LOOP =peek OUT")
+            r.setdefault(later(n + 1), f"{law}-end {head} {one} LOOP TEST ROUND OUT{comma}")
+            r.setdefault(later(n + 2), f"{law}-off {head} {one} LOOP OUT")
     elif body.count("return ") == (1 if idle else 0) and "while" not in body and fn.relation in READ:
         term = run(0, len(body))
         m = re.match(r"\(rule (\w+)\)$", fn.grammar)

@@ -3,13 +3,17 @@ use mathlib.Core.Path.{_≡_}
 use mathlib.Core.List.{List}
 use Prim.Native.Nat.{ℕ}
 use native.Mathlib.Omega.{arith}
+use lib.Dec.{T as Yes}
+use Rattle.tables.specs.Tables.{tokenAt}
 use Rattle.tables.specs.TokenKinds.{COMMA}
 use Rattle.grammar.specs.Derive.{G, many}
 use Rattle.grammar.specs.Grammar.{tok, opt, another, entries, list}
+use Rattle.grammar.proofs.Progress.{sane?}
+use Rattle.grammar.proofs.Whole.{solid}
 use Rattle.parser.specs.Read.{READING, FAILED, Reads, Step}
 use Rattle.parser.specs.declared.cursor.Cursor.{Cursor}
-use Rattle.parser.proofs.Laws.{clash, idle, _then_, first, absent, fine, opt-never, never-failed, one-step}
-use Rattle.parser.proofs.Loops.{Looping, rounds-end, rounds-off}
+use Rattle.parser.proofs.Laws.{clash, idle, nothing, _then_, first, absent, pass, many-miss, fine, opt-never, never-failed, one-step}
+use Rattle.parser.proofs.Loops.{Looping, rounds-end, rounds-miss, rounds-off}
 
 module _ {text w : List ℕ} where
   -- ---- a trailing comma is allowed
@@ -18,6 +22,20 @@ module _ {text w : List ℕ} where
 
   pub listed : {g : G} {p q r e : Cursor} {T U W : List ℕ} → Reads g text w p T q U → (q .status ≡ FAILED → ⊥) → Reads (many (another g)) text w q U r W → Step (opt (tok COMMA)) w r e → Reads (list g) text w p T e W
   listed y n m c = let d = one-step c in first (y then m then d) (never-failed opt-never d (fine m n))
+
+  -- no comma follows: there is no more of it
+  listed-over : {k : ℕ} {g : G} {p q r : Cursor} {T U W : List ℕ} → Reads g text w p T q U → (q .status ≡ FAILED → ⊥) → Reads (many (another g)) text w q U r W → k ≡ tokenAt w (r .at) .kind → (k ≡ COMMA → ⊥)
+      → Reads (list g) text w p T r W
+  listed-over {r = r} {W = W} y n m e h =
+      let d : Reads (opt (tok COMMA)) text w r W r W = pass {g = tok COMMA} e (h, tt) tt nothing in
+      first (y then m then d) (never-failed opt-never d (fine m n))
+
+  pub listed-one : {k : ℕ} {g : G} {p q : Cursor} {T U : List ℕ} → Yes (sane? solid g) → Reads g text w p T q U → (q .status ≡ FAILED → ⊥) → k ≡ tokenAt w (q .at) .kind → (k ≡ COMMA → ⊥) → Reads (list g) text w p T q U
+  listed-one z y n e h = listed-over y n (many-miss e (h, tt) z) e h
+
+  pub listed-miss : {k : ℕ} {g : G} {p q r : Cursor} {T U W : List ℕ} → Yes (sane? solid g) → Reads g text w p T q U → (q .status ≡ FAILED → ⊥) → Looping text w (another g) q U r W → k ≡ tokenAt w (r .at) .kind → (k ≡ COMMA → ⊥)
+      → Reads (list g) text w p T r W
+  listed-miss z y n L e h = listed-over y n (rounds-miss L e (h, tt) z) e h
 
   pub listed-end : {g : G} {p q r r′ e : Cursor} {T U W X : List ℕ} → Reads g text w p T q U → (q .status ≡ FAILED → ⊥) → Looping text w (another g) q U r W → r .status ≡ READING
       → Reads (another g) text w r W r′ X → r′ .status ≡ FAILED → Step (opt (tok COMMA)) w r e → Reads (list g) text w p T e X

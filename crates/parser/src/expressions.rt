@@ -350,6 +350,10 @@ fn arguments(text: &[u8], tokens: &[u8], nodes: &mut [u8], cursor: Cursor) -> Cu
     if p.status == FAILED {
         return cursor;
     }
+    let k = p.peek(tokens);
+    if k != COMMA {
+        return p;
+    }
     let p = exprs(text, tokens, nodes, p);
     p.skip(tokens, COMMA)
 }
@@ -447,6 +451,10 @@ fn struct_literal_fields(text: &[u8], tokens: &[u8], nodes: &mut [u8], cursor: C
     }
     let mut p = p;
     while p.status == READING {
+        let k = p.peek(tokens);
+        if k != COMMA {
+            return p;
+        }
         let q = p.take(tokens, COMMA);
         let q = field(text, tokens, nodes, q);
         if q.status == FAILED {
@@ -486,6 +494,10 @@ fn array(text: &[u8], tokens: &[u8], nodes: &mut [u8], cursor: Cursor) -> Cursor
         let q = e.take(tokens, SEMICOLON);
         let q = repeat_count(tokens, nodes, q);
         return q.whole(tokens, nodes, node_kind::ARRAY_REPEAT);
+    }
+    if k != COMMA {
+        let q = e.take(tokens, R_BRACK);
+        return q.whole(tokens, nodes, node_kind::ARRAY);
     }
     let q = exprs(text, tokens, nodes, e);
     let q = q.skip(tokens, COMMA);

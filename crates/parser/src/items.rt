@@ -87,6 +87,10 @@ fn params(text: &[u8], tokens: &[u8], nodes: &mut [u8], cursor: Cursor) -> Curso
     }
     let mut p = p;
     while p.status == READING {
+        let k = p.peek(tokens);
+        if k != COMMA {
+            return p;
+        }
         let q = p.take(tokens, COMMA);
         let q = param(text, tokens, nodes, q);
         let q = q.tick();
@@ -155,6 +159,10 @@ fn struct_fields(text: &[u8], tokens: &[u8], nodes: &mut [u8], cursor: Cursor) -
     }
     let mut p = p;
     while p.status == READING {
+        let k = p.peek(tokens);
+        if k != COMMA {
+            return p;
+        }
         let q = p.take(tokens, COMMA);
         let q = struct_field(text, tokens, nodes, q);
         if q.status == FAILED {

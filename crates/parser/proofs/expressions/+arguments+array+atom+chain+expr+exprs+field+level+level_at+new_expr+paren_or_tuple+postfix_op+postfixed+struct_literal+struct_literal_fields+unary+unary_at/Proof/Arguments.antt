@@ -1,5 +1,5 @@
 -- The reader `arguments` of the cycle. Assumes nothing.
-use Rattle.parser.proofs.Reading.{_∙_, ℕ, arith, body, idle, pass, nothing, on, at-here, further, lower, listed, listed-none}
+use Rattle.parser.proofs.Reading.{_∙_, ℕ, arith, body, idle, pass, nothing, on, at-here, further, lower, listed, listed-none, listed-one}
 use Rattle.parser.proofs.cursor.Cursor.peek.Reads as peek-reads
 use Rattle.parser.proofs.cursor.Cursor.skip.Reads as skip-reads
 use Rattle.parser.proofs.expressions.arguments.Reads as arguments
@@ -26,11 +26,17 @@ arguments-spec t = lts.spec (given t) (reader-at 31 t) arguments.Post
     (λ c. let c4 = c .before .before .before .before in let kept1 = c4 .expr .kept .1 .1 .0 in (kept1))
     -- returns-3
     (λ c. let if3 = c .if3 .taken in let c4 = c .before .before .before .before in let expr = c4 .expr .ensures in listed-none expr if3)
-    -- exprs-requires
-    (λ c κs. let c5 = c .before .before .before .before .before in let expr = c5 .expr .ensures in let c9 = c5 .before .before .before .before in let if1 = c9 .if1 .left in let c14 = c9 .before .before .before .before .before in let pre = c14 .pre in (further 3 31 (pre .0) if1 (on expr) tt (omega arith), tt))
-    -- skip-requires
+    -- peek-requires-2
     (λ c κs. tt)
     -- same-length-2
-    (λ c. let c3 = c .before .before .before in let kept1 = c3 .exprs .kept .1 .1 .0 in let c9 = c3 .before .before .before .before .before .before in let kept2 = c9 .expr .kept .1 .1 .0 in (kept1 ∙ kept2))
+    (λ c. let c6 = c .before .before .before .before .before .before in let kept1 = c6 .expr .kept .1 .1 .0 in (kept1))
     -- returns-4
-    (λ c. let skip = c .skip .ensures in let c3 = c .before .before .before in let exprs = c3 .exprs .ensures in let c5 = c3 .before .before in let if3 = c5 .if3 .left in let c9 = c5 .before .before .before .before in let expr = c9 .expr .ensures in listed expr if3 exprs skip)
+    (λ c. let if4 = c .if4 .taken in let c1 = c .before in let peek2 = c1 .peek2 .ensures in let c2 = c1 .before in let if3 = c2 .if3 .left in let c6 = c2 .before .before .before .before in let expr = c6 .expr .ensures in listed-one tt expr if3 peek2 if4)
+    -- exprs-requires
+    (λ c κs. let c7 = c .before .before .before .before .before .before .before in let expr = c7 .expr .ensures in let c11 = c7 .before .before .before .before in let if1 = c11 .if1 .left in let c16 = c11 .before .before .before .before .before in let pre = c16 .pre in (further 3 31 (pre .0) if1 (on expr) tt (omega arith), tt))
+    -- skip-requires
+    (λ c κs. tt)
+    -- same-length-3
+    (λ c. let c3 = c .before .before .before in let kept1 = c3 .exprs .kept .1 .1 .0 in let c11 = c3 .before .before .before .before .before .before .before .before in let kept2 = c11 .expr .kept .1 .1 .0 in (kept1 ∙ kept2))
+    -- returns-5
+    (λ c. let skip = c .skip .ensures in let c3 = c .before .before .before in let exprs = c3 .exprs .ensures in let c7 = c3 .before .before .before .before in let if3 = c7 .if3 .left in let c11 = c7 .before .before .before .before in let expr = c11 .expr .ensures in listed expr if3 exprs skip)
