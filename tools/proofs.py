@@ -16,14 +16,16 @@ MOD = "Rattle.parser.proofs."
 # a contract's relation: the law that makes a reading of it, and the law that says how far on it is
 READ = {"Reads": ("", "on"), "Puts": ("one-put", "on-put"), "Grown": ("one-grown", "on-grown"), "Step": ("one-step", "on-step"), "Free": ("one-free", "on-free")}
 # those that speak of one text
-TEXTED = ("Reads", "Inside", "")
+TEXTED = ("Reads", "Inside", "Ends", "")
 OWN = {"Reads": "", "Puts": "λ text. ", "Grown": "λ text w. ", "Step": "λ text T. ", "Free": "λ text w T. "}
 MAKE = {"Puts": "puts", "Grown": "grown", "Step": "steps", "Free": "free"}
 # the forms of parameters that proofs/Cycles has measures for
-FORMS = {("text", "tokens", "nodes", "cursor"): "reader", ("text", "tokens", "nodes", "cursor", "n"): "level", ("tokens", "nodes", "cursor"): "pattern",
+FORMS = {("text", "tokens", "nodes", "cursor"): "reader", ("text", "tokens", "nodes", "cursor", "n"): "level", ("text", "tokens", "nodes", "cursor", "kind"): "level", ("tokens", "nodes", "cursor"): "pattern",
          ("text", "tokens", "nodes", "at", "count", "nest"): "inside", ("text", "tokens", "nodes", "at", "count", "nest", "n"): "inside-level"}
 # calls that read nothing by themselves
-PLAIN = ("enter", "leave", "skip", "peek", "second", "begin", "ended", "join", "inner")
+PLAIN = ("enter", "leave", "skip", "peek", "second", "begin", "ended", "ended-with", "join", "inner")
+# a reader that begins so does nothing where nothing is being read
+IDLE = re.compile(r"\s*if cursor\.status != READING \{\n        return cursor(\.ended_with\(false\))?;")
 WORD = r"(?<![\w.·-])[a-z][a-z0-9-]*(?![\w·-])"
 dash = lambda f: f.replace("_", "-")
 
@@ -196,10 +198,11 @@ def calls(body):
 def shape(fn, recipe):
     """completes a recipe by what the source shows"""
     r, body, cs = dict(recipe), fn.body, calls(fn.body)
-    idle = body.lstrip().startswith("if cursor.status != READING {\n        return cursor;")
+    idle = IDLE.match(body)
     first = "returns-2" if idle else "returns"
     later = lambda n: f"returns-{n + (1 if idle else 0)}" if n + (1 if idle else 0) > 1 else "returns"
-    run = lambda a, b: " then ".join(c for c, i in cs if a <= i < b and c not in PLAIN)
+    joint = " then-ends " if fn.relation == "Ends" else " then "
+    run = lambda a, b: joint.join(c for c, i in cs if a <= i < b and c not in PLAIN)
     if "while p.status == READING" in body and fn.grammar:
         start, test = body.index("while p.status"), body.index("if q.status == FAILED")
         m = re.match(r"\((many|list|fields|entries) (.*)\)$", fn.grammar)
@@ -219,7 +222,7 @@ def shape(fn, recipe):
             if look: r.setdefault(later(2), f"{law}-miss tt {head} {one} LOOP =peek OUT")
             r.setdefault(later(n + 1), f"{law}-end {head} {one} LOOP TEST ROUND OUT{comma}")
             r.setdefault(later(n + 2), f"{law}-off {head} {one} LOOP OUT")
-    elif body.count("return ") == (1 if idle else 0) and "while" not in body and fn.relation in READ:
+    elif body.count("return ") == (1 if idle else 0) and "while" not in body and (fn.relation in READ or fn.relation == "Ends"):
         term = run(0, len(body))
         m = re.match(r"\(rule (\w+)\)$", fn.grammar)
         part = next((c for c, i in cs if c.endswith("-at")), None)
@@ -243,7 +246,7 @@ def looked(term, idle):
 class Reader:
     def __init__(self, fn, recipe, lts, ranks, far):
         self.fn, self.lts, self.ranks, self.far = fn, lts, ranks, far
-        self.idle = fn.body.lstrip().startswith("if cursor.status != READING {\n        return cursor;")
+        self.idle = IDLE.match(fn.body)
         self.recipe = {k: looked(v, self.idle) for k, v in shape(fn, recipe).items()}
         self.loop = bool(lts.loops)
 
@@ -282,7 +285,7 @@ class Reader:
                 if callee.endswith("-at"): ch = "at-rule if1"
                 term = f"({'further' if far else 'lower'} {self.ranks[dash(callee)]} {self.ranks[dash(self.fn.name)]} (pre .0) {start} ({ch}) {'tt ' if far else ''}(omega arith), tt)"
             else: term = "tt"
-        elif term is None and need == "returns" and self.idle: term = self.own("idle if1")
+        elif term is None and need == "returns" and self.idle: term = "ends-by refl (idle if1) ended-with" if self.fn.relation == "Ends" else self.own("idle if1")
         elif term is None and need.startswith("same-length"): term = "KEPT"
         elif term is None and self.loop and "round" in self.recipe:
             if need == "loop-holds": term = self.held("rounds-begin")

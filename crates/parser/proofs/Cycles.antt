@@ -26,7 +26,7 @@ reader-at n t = and 3 reader.ps (is 3 reader.ps (μ-reader n) t) reader-reads.Pr
 abbrev pub reader-below : ℕ → ℕ → In 3 reader.ps
 reader-below n t = and 3 reader.ps (falls 3 reader.ps _<_ (μ-reader n) t) reader-reads.Pre
 
--- the same with a level
+-- the same with a level or a kind
 abbrev pub μ-level : ℕ → Measures 3 level.ps ℕ
 μ-level n κs a = size (a .1 .0 .now) (a .1 .1 .1 .0) n
 

@@ -4,6 +4,7 @@ pub mod Cursors
 pub mod Holding
 pub mod Laws
 pub mod Falls
+pub mod Elses
 pub mod Cycles
 pub mod Loops
 pub mod Lists

@@ -10,6 +10,7 @@ pub use Rattle.parser.specs.Read.{puts, grown, steps}
 pub use Rattle.parser.specs.Steps.{a-not, a-minus, no-prefix, plain-name, plain-numeral, not-plain}
 pub use Rattle.parser.proofs.Laws.{clash, idle, one-put, one-grown, one-step, one-free, _then_, first, other, absent, only, pass, many-miss, by-rule, by-part, inside-by, as-deep, nothing}
 pub use Rattle.parser.proofs.Falls.{size, on, on-put, on-grown, on-step, on-free, at-here, at-in, at-begin, at-rule, _and-on_, was, further, lower}
+pub use Rattle.parser.proofs.Elses.{fell, ends-by, ends-as, _then-ends_, ends-close, no-else, failed-else, by-stmt, tried-outside}
 pub use Rattle.parser.proofs.Loops.{Looping, rounds-begin, rounds-next, rounds-end, rounds-miss, rounds-before, rounds-off}
 pub use Rattle.parser.proofs.Lists.{listed, listed-none, listed-one, listed-miss, listed-end, listed-off, entries-none, entries-end, entries-off}
 pub use Rattle.parser.proofs.Shapes.{regroup, share, element, no-element, many-never, opt-never, and-never, both-not, both-read, one, two}

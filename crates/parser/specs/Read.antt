@@ -1,14 +1,17 @@
 -- What a reader's contract says: how the cursor and the node table that it leaves stand to the grammar that it reads. Assumes nothing.
 use mathlib.Core.Path.{_≡_}
+use mathlib.Core.Bool.{Bool, true}
 use mathlib.Core.List.{List}
 use Prim.Native.Nat.{ℕ, _<_, _≤_, min}
 use lib.ListN.{length}
 use Rattle.tables.specs.Tables.{Node, laid}
-use Rattle.grammar.specs.Derive.{Input, R, G, S, Out, got, none, Derives, Takes}
-use Rattle.grammar.specs.Grammar.{body, nests}
+use Rattle.tables.specs.TokenKinds.{ELSE}
+use Rattle.grammar.specs.Derive.{Input, R, stmt, G, _&_, rule, S, Out, got, none, Derives, Takes}
+use Rattle.grammar.specs.Grammar.{body, nests, tok}
 use Rattle.parser.specs.Parse.{input, MAX16, MAX64, entryOf}
 use Rattle.parser.specs.declared.cursor.Cursor.{Cursor}
 use Rattle.parser.specs.declared.cursor.Part.{Part}
+use Rattle.parser.specs.declared.cursor.StmtPart.{StmtPart}
 
 -- ---- attempts
 
@@ -106,3 +109,17 @@ pub data Inside (r : R) (text w : List ℕ) (i c n : ℕ) (T : List ℕ) (q : Pa
 -- at the first token of a text
 abbrev pub start : Cursor
 start = begun 0 0 0
+
+-- ---- statements
+
+-- an `else` at the token k fails at nest n
+pub record Tried (text w : List ℕ) (n k : ℕ) : Type 0 where
+  pub fails : (s : S) → s .at ≡ k → Attempt (input text w) (tok ELSE & rule stmt) n s none
+
+-- what a statement that ends so is; f says that an `else` there is known to fail
+abbrev pub ending-with : Bool → Cursor → StmtPart
+ending-with f e = record { part = ending e; tried = f }
+
+-- a reader of g, given the cursor p and the node table T, left U and has read q, and an `else` where that ends fails at p's nest if q says so
+pub data Ends (g : G) (text w : List ℕ) (p : Cursor) (T : List ℕ) (q : StmtPart) (U : List ℕ) : Type 0 where
+  ends : (e : Cursor) → Reads g text w p T e U → q .part ≡ ending e → (q .tried ≡ true → e .status ≡ READING → Tried text w (p .nest) (e .at)) → Ends g text w p T q U

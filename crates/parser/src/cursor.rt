@@ -9,7 +9,7 @@ ghost use Rattle.grammar.specs.Derive.{step, take, leaf, index, literal, count,
 ghost use Rattle.grammar.specs.Kinds.{Call};
 ghost use Rattle.grammar.specs.Grammar.{tok, op, opt, name, namedType, numeral, whole, operands, spanless};
 ghost use Rattle.parser.specs.Parse.{MAX16, MAX64};
-ghost use Rattle.parser.specs.Read.{Reads, Puts, Grown, Step, Free, begun, ending};
+ghost use Rattle.parser.specs.Read.{Reads, Puts, Grown, Step, Free, begun, ending, ending-with};
 ghost use Rattle.parser.specs.Steps.{Wanted, Halted, Advanced, Closed, Agreed, Restarted, Left, with-part, fresh-at, signed-at, entered, shallow, joining, up};
 use grammar::node_kind;
 use patterns::is_word;
@@ -50,6 +50,12 @@ pub struct Part {
     pub from: u16,
     pub to: u16,
     pub status: u8,
+}
+
+// What a statement has read, and whether an `else` where it ended is known to fail.
+pub struct StmtPart {
+    pub part: Part,
+    pub tried: bool,
 }
 
 impl Cursor {
@@ -327,6 +333,17 @@ impl Cursor {
             from: self.from,
             to: self.to,
             status: self.status,
+        }
+    }
+
+    // Past a statement: what it has read, and whether an `else` here is known to fail.
+    pub fn ended_with(self, tried: bool) -> StmtPart
+        ensures { λ r. ⌜ r ≡ ending-with tried self ⌝ }
+    {
+        let part = self.ended();
+        StmtPart {
+            part: part,
+            tried: tried,
         }
     }
 

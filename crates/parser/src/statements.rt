@@ -1,12 +1,13 @@
 // Statements.
-ghost use Rattle.grammar.specs.Derive.{rule, expr, stmt, forStep, many};
-ghost use Rattle.grammar.specs.Grammar.{tok, opt, typed, condition, letStmt, constDef, action, assigned, finish, forStmt, forInit, elsePart, blockStmt, ifStmt, loopStmt, whileStmt, returnStmt, statement};
+ghost use Rattle.grammar.specs.Derive.{rule, expr, stmt, forStep, many, _&_};
+ghost use Rattle.grammar.specs.Kinds.{If};
+ghost use Rattle.grammar.specs.Grammar.{tok, whole, opt, typed, condition, letStmt, constDef, action, assigned, finish, forStmt, forInit, elsePart, blockStmt, ifStmt, loopStmt, whileStmt, returnStmt, statement};
 ghost use Rattle.tables.specs.TokenKinds.{SEMI};
-ghost use Rattle.parser.specs.Read.{Reads, Puts, Inside};
+ghost use Rattle.parser.specs.Read.{Reads, Puts, Ends, begun};
 use crate::cursor::Cursor;
 use crate::cursor::FAILED;
-use crate::cursor::Part;
 use crate::cursor::READING;
+use crate::cursor::StmtPart;
 use crate::cursor::inner;
 use crate::expressions::expr;
 use crate::let_pattern::pattern;
@@ -44,61 +45,64 @@ fn stmt(text: &[u8], tokens: &[u8], nodes: &mut [u8], cursor: Cursor) -> Cursor
         cursor.count,
         inner(cursor.nest, 1),
     );
-    cursor.join(q)
+    cursor.join(q.part)
 }
 
 // The inside of a statement: its first token says which.
-fn stmt_at(text: &[u8], tokens: &[u8], nodes: &mut [u8], at: usize, count: usize, nest: u8) -> Part
-    ensures { λ r. ⌜ Inside stmt (now (text .entry)) (now (tokens .entry)) at count nest (now (nodes .entry)) r (now (nodes .exit)) ⌝ }
+fn stmt_at(
+    text: &[u8],
+    tokens: &[u8],
+    nodes: &mut [u8],
+    at: usize,
+    count: usize,
+    nest: u8,
+) -> StmtPart
+    ensures { λ r. ⌜ Ends statement (now (text .entry)) (now (tokens .entry)) (begun at count nest) (now (nodes .entry)) r (now (nodes .exit)) ⌝ }
 {
     let start = Cursor::begin(at, count, nest);
     let k = start.peek(tokens);
     if k == L_BRACE {
         let p = block(text, tokens, nodes, start);
-        return p.ended();
+        return p.ended_with(false);
     }
     if k == IF {
-        let p = if_stmt(text, tokens, nodes, start);
-        return p.ended();
+        return if_stmt(text, tokens, nodes, start);
     }
     if k == LOOP {
-        let p = loop_stmt(text, tokens, nodes, start);
-        return p.ended();
+        return loop_stmt(text, tokens, nodes, start);
     }
     if k == WHILE {
-        let p = while_stmt(text, tokens, nodes, start);
-        return p.ended();
+        return while_stmt(text, tokens, nodes, start);
     }
     if k == FOR {
-        let p = for_stmt(text, tokens, nodes, start);
-        return p.ended();
+        return for_stmt(text, tokens, nodes, start);
     }
     if k == BREAK {
         let p = start.take(tokens, BREAK);
         let p = p.take(tokens, SEMICOLON);
         let p = p.whole(tokens, nodes, node_kind::BREAK);
-        return p.ended();
+        return p.ended_with(false);
     }
     if k == CONTINUE {
         let p = start.take(tokens, CONTINUE);
         let p = p.take(tokens, SEMICOLON);
         let p = p.whole(tokens, nodes, node_kind::CONTINUE);
-        return p.ended();
+        return p.ended_with(false);
     }
     if k == LET {
         let p = let_stmt(text, tokens, nodes, start);
-        return p.ended();
+        return p.ended_with(false);
     }
     if k == CONST {
         let p = const_def(text, tokens, nodes, start);
-        return p.ended();
+        return p.ended_with(false);
     }
     if k == RETURN {
         let p = return_stmt(text, tokens, nodes, start);
-        return p.ended();
+        return p.ended_with(false);
     }
     let p = assignment_or_expr(text, tokens, nodes, start);
-    p.ended()
+    p.ended_with(false)
 }
 
 fn block(text: &[u8], tokens: &[u8], nodes: &mut [u8], cursor: Cursor) -> Cursor
@@ -131,65 +135,81 @@ pub fn stmts(text: &[u8], tokens: &[u8], nodes: &mut [u8], cursor: Cursor) -> Cu
     p
 }
 
-fn if_stmt(text: &[u8], tokens: &[u8], nodes: &mut [u8], cursor: Cursor) -> Cursor
-    ensures { λ r. ⌜ Reads ifStmt (now (text .entry)) (now (tokens .entry)) cursor (now (nodes .entry)) r (now (nodes .exit)) ⌝ }
+fn if_stmt(text: &[u8], tokens: &[u8], nodes: &mut [u8], cursor: Cursor) -> StmtPart
+    ensures { λ r. ⌜ Ends ifStmt (now (text .entry)) (now (tokens .entry)) cursor (now (nodes .entry)) r (now (nodes .exit)) ⌝ }
 {
     if cursor.status != READING {
-        return cursor;
+        return cursor.ended_with(false);
     }
     let p = cursor.take(tokens, IF);
     let p = condition(text, tokens, nodes, p);
-    let p = stmt(text, tokens, nodes, p);
-    let p = else_block(text, tokens, nodes, p);
-    p.whole(tokens, nodes, node_kind::IF)
+    branches(text, tokens, nodes, p)
 }
 
-fn else_block(text: &[u8], tokens: &[u8], nodes: &mut [u8], cursor: Cursor) -> Cursor
-    ensures { λ r. ⌜ Reads elsePart (now (text .entry)) (now (tokens .entry)) cursor (now (nodes .entry)) r (now (nodes .exit)) ⌝ }
+// The statement of an `if`, and its `else`: one that failed at this token within the statement is not tried again.
+fn branches(text: &[u8], tokens: &[u8], nodes: &mut [u8], cursor: Cursor) -> StmtPart
+    ensures { λ r. ⌜ Ends (rule stmt & elsePart & whole If) (now (text .entry)) (now (tokens .entry)) cursor (now (nodes .entry)) r (now (nodes .exit)) ⌝ }
 {
     if cursor.status != READING {
-        return cursor;
+        return cursor.ended_with(false);
     }
-    let k = cursor.peek(tokens);
-    if k != ELSE {
-        return cursor;
+    let s = stmt_at(
+        text,
+        tokens,
+        nodes,
+        cursor.at,
+        cursor.count,
+        inner(cursor.nest, 1),
+    );
+    let p = cursor.join(s.part);
+    if s.tried {
+        let p = p.whole(tokens, nodes, node_kind::IF);
+        return p.ended_with(true);
     }
-    let p = cursor.take(tokens, ELSE);
-    let p = stmt(text, tokens, nodes, p);
-    if p.status == FAILED {
-        return cursor;
+    let q = p.take(tokens, ELSE);
+    if q.status == FAILED {
+        let p = p.whole(tokens, nodes, node_kind::IF);
+        return p.ended_with(true);
     }
-    p
+    if q.status != READING {
+        return q.ended_with(false);
+    }
+    let t = stmt_at(text, tokens, nodes, q.at, q.count, inner(q.nest, 1));
+    let q = q.join(t.part);
+    if q.status == FAILED {
+        let p = p.whole(tokens, nodes, node_kind::IF);
+        return p.ended_with(true);
+    }
+    let q = q.whole(tokens, nodes, node_kind::IF);
+    q.ended_with(t.tried)
 }
 
-fn loop_stmt(text: &[u8], tokens: &[u8], nodes: &mut [u8], cursor: Cursor) -> Cursor
-    ensures { λ r. ⌜ Reads loopStmt (now (text .entry)) (now (tokens .entry)) cursor (now (nodes .entry)) r (now (nodes .exit)) ⌝ }
+fn loop_stmt(text: &[u8], tokens: &[u8], nodes: &mut [u8], cursor: Cursor) -> StmtPart
+    ensures { λ r. ⌜ Ends loopStmt (now (text .entry)) (now (tokens .entry)) cursor (now (nodes .entry)) r (now (nodes .exit)) ⌝ }
 {
     if cursor.status != READING {
-        return cursor;
+        return cursor.ended_with(false);
     }
     let p = cursor.take(tokens, LOOP);
-    let p = stmt(text, tokens, nodes, p);
-    p.whole(tokens, nodes, node_kind::LOOP)
+    last_stmt(text, tokens, nodes, p, node_kind::LOOP)
 }
 
-fn while_stmt(text: &[u8], tokens: &[u8], nodes: &mut [u8], cursor: Cursor) -> Cursor
-    ensures { λ r. ⌜ Reads whileStmt (now (text .entry)) (now (tokens .entry)) cursor (now (nodes .entry)) r (now (nodes .exit)) ⌝ }
+fn while_stmt(text: &[u8], tokens: &[u8], nodes: &mut [u8], cursor: Cursor) -> StmtPart
+    ensures { λ r. ⌜ Ends whileStmt (now (text .entry)) (now (tokens .entry)) cursor (now (nodes .entry)) r (now (nodes .exit)) ⌝ }
 {
     if cursor.status != READING {
-        return cursor;
+        return cursor.ended_with(false);
     }
     let p = cursor.take(tokens, WHILE);
     let p = condition(text, tokens, nodes, p);
-    let p = stmt(text, tokens, nodes, p);
-    p.whole(tokens, nodes, node_kind::WHILE)
+    last_stmt(text, tokens, nodes, p, node_kind::WHILE)
 }
 
-fn for_stmt(text: &[u8], tokens: &[u8], nodes: &mut [u8], cursor: Cursor) -> Cursor
-    ensures { λ r. ⌜ Reads forStmt (now (text .entry)) (now (tokens .entry)) cursor (now (nodes .entry)) r (now (nodes .exit)) ⌝ }
+fn for_stmt(text: &[u8], tokens: &[u8], nodes: &mut [u8], cursor: Cursor) -> StmtPart
+    ensures { λ r. ⌜ Ends forStmt (now (text .entry)) (now (tokens .entry)) cursor (now (nodes .entry)) r (now (nodes .exit)) ⌝ }
 {
     if cursor.status != READING {
-        return cursor;
+        return cursor.ended_with(false);
     }
     let p = cursor.take(tokens, FOR);
     let p = p.take(tokens, L_PAREN);
@@ -198,8 +218,27 @@ fn for_stmt(text: &[u8], tokens: &[u8], nodes: &mut [u8], cursor: Cursor) -> Cur
     let p = p.take(tokens, SEMICOLON);
     let p = for_step(text, tokens, nodes, p);
     let p = p.take(tokens, R_PAREN);
-    let p = stmt(text, tokens, nodes, p);
-    p.whole(tokens, nodes, node_kind::FOR)
+    last_stmt(text, tokens, nodes, p, node_kind::FOR)
+}
+
+// The statement that a loop ends with, and the loop's node.
+fn last_stmt(text: &[u8], tokens: &[u8], nodes: &mut [u8], cursor: Cursor, kind: u8) -> StmtPart
+    ensures { λ r. ⌜ Ends (rule stmt & whole kind) (now (text .entry)) (now (tokens .entry)) cursor (now (nodes .entry)) r (now (nodes .exit)) ⌝ }
+{
+    if cursor.status != READING {
+        return cursor.ended_with(false);
+    }
+    let s = stmt_at(
+        text,
+        tokens,
+        nodes,
+        cursor.at,
+        cursor.count,
+        inner(cursor.nest, 1),
+    );
+    let p = cursor.join(s.part);
+    let p = p.whole(tokens, nodes, kind);
+    p.ended_with(s.tried)
 }
 
 fn for_init(text: &[u8], tokens: &[u8], nodes: &mut [u8], cursor: Cursor) -> Cursor

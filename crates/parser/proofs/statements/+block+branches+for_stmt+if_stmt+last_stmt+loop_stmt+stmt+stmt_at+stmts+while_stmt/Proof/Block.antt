@@ -4,7 +4,7 @@ use Rattle.parser.proofs.cursor.Cursor.take.Reads as take-reads
 use Rattle.parser.proofs.cursor.Cursor.whole.Reads as whole-reads
 use Rattle.parser.proofs.statements.block.Reads as block
 use Rattle.parser.proofs.statements.stmts.Reads as stmts
-use Rattle.parser.proofs.statements.+block+else_block+for_stmt+if_stmt+loop_stmt+stmt+stmt_at+stmts+while_stmt.Lts-block as lts
+use Rattle.parser.proofs.statements.+block+branches+for_stmt+if_stmt+last_stmt+loop_stmt+stmt+stmt_at+stmts+while_stmt.Lts-block as lts
 use Rattle.parser.proofs.Cycles.{reader-at, reader-below}
 
 abbrev given : ℕ → lts.Claims

@@ -4,7 +4,7 @@ use Rattle.grammar.specs.Derive as G
 use Rattle.parser.proofs.cursor.Cursor.peek.Reads as peek-reads
 use Rattle.parser.proofs.statements.stmt.Reads as stmt
 use Rattle.parser.proofs.statements.stmts.Reads as stmts
-use Rattle.parser.proofs.statements.+block+else_block+for_stmt+if_stmt+loop_stmt+stmt+stmt_at+stmts+while_stmt.Lts-stmts as lts
+use Rattle.parser.proofs.statements.+block+branches+for_stmt+if_stmt+last_stmt+loop_stmt+stmt+stmt_at+stmts+while_stmt.Lts-stmts as lts
 use Rattle.parser.proofs.Cycles.{reader-at, reader-below}
 
 abbrev given : ℕ → lts.Claims

@@ -1,11 +1,10 @@
 -- The reader `stmt` of the cycle. Assumes nothing.
-use Rattle.parser.proofs.Reading.{ℕ, arith, body, idle, by-part, at-rule, lower}
-use Rattle.grammar.specs.Derive as G
+use Rattle.parser.proofs.Reading.{ℕ, arith, body, idle, at-rule, lower, by-stmt}
 use Rattle.parser.proofs.cursor.Cursor.join.Reads as join-reads
 use Rattle.parser.proofs.cursor.inner.Reads as inner-reads
 use Rattle.parser.proofs.statements.stmt.Reads as stmt
 use Rattle.parser.proofs.statements.stmt_at.Reads as stmt-at
-use Rattle.parser.proofs.statements.+block+else_block+for_stmt+if_stmt+loop_stmt+stmt+stmt_at+stmts+while_stmt.Lts-stmt as lts
+use Rattle.parser.proofs.statements.+block+branches+for_stmt+if_stmt+last_stmt+loop_stmt+stmt+stmt_at+stmts+while_stmt.Lts-stmt as lts
 use Rattle.parser.proofs.Cycles.{inside-below, reader-at}
 
 abbrev given : ℕ → lts.Claims
@@ -25,4 +24,4 @@ stmt-spec t = lts.spec (given t) (reader-at 20 t) stmt.Post
     -- same-length
     (λ c. let c3 = c .before .before .before in let kept1 = c3 .stmt-at .kept .1 .1 .0 in (kept1))
     -- returns-2
-    (λ c. let join = c .join .ensures in let c3 = c .before .before .before in let stmt-at = c3 .stmt-at .ensures in let c4 = c3 .before in let inner = c4 .inner .ensures in let c6 = c4 .before .before in let if1 = c6 .if1 .left in by-part G.stmt (record { upto = omega (arith, inner) }) if1 stmt-at join)
+    (λ c. let join = c .join .ensures in let c3 = c .before .before .before in let stmt-at = c3 .stmt-at .ensures in let c4 = c3 .before in let inner = c4 .inner .ensures in let c6 = c4 .before .before in let if1 = c6 .if1 .left in by-stmt inner if1 stmt-at join)
