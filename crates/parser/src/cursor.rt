@@ -44,12 +44,13 @@ pub struct Cursor {
 }
 
 // What a rule has read: where it ended, how many nodes there are then, and the part that it is of what is around it.
+// The status stands off every fourth byte, where it would be loaded with the gap behind it, which waits for its store.
 pub struct Part {
     pub at: usize,
     pub count: usize,
     pub from: u16,
-    pub to: u16,
     pub status: u8,
+    pub to: u16,
 }
 
 // What a statement has read, and whether an `else` where it ended is known to fail.
@@ -331,8 +332,8 @@ impl Cursor {
             at: self.at,
             count: self.count,
             from: self.from,
-            to: self.to,
             status: self.status,
+            to: self.to,
         }
     }
 
