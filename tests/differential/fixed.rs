@@ -109,6 +109,11 @@ fn list() -> List {
     for length in [65535, 65536] {
         list.add(&vec![b' '; length], TOKENS, NODES, DIAGNOSTICS);
     }
+    // blocks that do not end, each in the `else` of two `if`s
+    for levels in [2, 12, 20] {
+        let text = format!("fn f() {{ {})", "{ if (a) if (a) x; else ".repeat(levels));
+        list.add(text.as_bytes(), TOKENS, NODES, DIAGNOSTICS);
+    }
     let mut owed = SHARES;
     for number in 0.. {
         if owed.iter().all(|&count| count == 0) {

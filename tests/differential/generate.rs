@@ -940,11 +940,36 @@ fn long(random: &mut Random) -> Vec<u8> {
     text
 }
 
+// ---- an `else` that more than one `if` can try
+
+/// Statements that end with another, round after round; some have an `else`, which may fail, and some blocks do not end.
+fn spine(random: &mut Random) -> Vec<Word> {
+    const HEADS: [&str; 8] = ["if ( a )", "if ( a )", "if ( a )", "if a", "while ( a )", "loop", "for ( a ; b ; c )", "{"];
+    const ENDS: [&str; 6] = ["b ;", "b ;", "{ }", "break ;", "{ b ; }", ""];
+    const AFTER: [&str; 6] = ["else", "else {", "else {", "else b ;", "else if ( a ) b ;", "}"];
+    let mut words = String::from("fn f ( ) {");
+    for _ in 0..1 + random.below(5) {
+        for _ in 0..1 + random.below(5) {
+            words += &format!(" {}", random.pick(&HEADS));
+        }
+        words += &format!(" {}", random.pick(&ENDS));
+        for _ in 0..random.below(4) {
+            words += &format!(" {}", random.pick(&AFTER));
+        }
+    }
+    words += &" }".repeat(random.below(8));
+    words.split_ascii_whitespace().map(|word| Cow::Owned(word.to_owned())).collect()
+}
+
 // ---- the texts of a run
 
 /// Text `number` of the run with this seed.
 pub fn text(seed: u64, number: u64) -> Vec<u8> {
     let random = &mut Random::new(seed, number);
+    if number % 32 == 31 {
+        let words = spine(random);
+        return render(random, &words);
+    }
     if random.one_in(1500) {
         return long(random);
     }
