@@ -60,7 +60,7 @@ pub(crate) fn level(text: &[u8], tokens: &[u8], nodes: &mut [u8], cursor: Cursor
     cursor.join(q)
 }
 
-// Over casts each level goes on from what the level below has read, until no operator stands there.
+// Over casts each level goes on from what the level below has read. The binary operators are the kinds from AND_AND to MOD; where none stands, no level reads on.
 pub(crate) fn level_at(
     text: &[u8],
     tokens: &[u8],
