@@ -2,7 +2,8 @@
 use Prim.Native.Nat.{ℕ, _+_, _≤_, _<_}
 use mathlib.Core.Path.{_≡_, refl}
 use native.Mathlib.Omega.{arith}
-use Rattle.grammar.specs.Derive.{Input, token, R, Act, Step, take, close, tick, alone, done, G, step, _&_, _or_, many, both, rule, S, Out, got, none, yields, agree, enter, leave}
+use borrow.Author.Tests.{eq-eqb, ne-eqb}
+use Rattle.grammar.specs.Derive.{Input, token, R, Act, Step, take, close, tick, alone, done, G, step, _&_, _or_, many, both, rule, S, Out, got, none, next, act, yields, agree, enter, leave}
 use Rattle.grammar.specs.Derive.{Derives, stepped, and-not, and-then, or-first, or-else, no-more, one-more, agreed, ruled}
 use Rattle.grammar.specs.Derive.{Takes, here, and-left, and-right, or-left, or-right, now, later, both-first, inside}
 use Rattle.grammar.specs.Grammar.{body, nests}
@@ -91,6 +92,15 @@ module _ {x : Input} where
 
   pub attempt-miss : {k : ℕ} {a : Act} {n : ℕ} {s : S} → (token x (s .at) .kind ≡ k → ⊥) → Attempt x (step (take k a)) n s (yields x (take k a) s)
   attempt-miss h = record { derived = stepped; within = λ i m t. elim t [ here e f q ↦ absurd (h e) ] }
+
+  -- a token that is there and one that is not
+  pub attempt-there : {k : ℕ} {n : ℕ} {s : S} (a : Act) → token x (s .at) .kind ≡ k → n ≤ LIMIT → Attempt x (step (take k a)) n s (act x a (token x (s .at)) (next s))
+  unfolding yields
+  attempt-there a e h = attempt-as (rw (eq-eqb _ _ e)) (attempt-take h)
+
+  pub attempt-absent : {k : ℕ} {a : Act} {n : ℕ} {s : S} → (token x (s .at) .kind ≡ k → ⊥) → Attempt x (step (take k a)) n s none
+  unfolding yields
+  attempt-absent h = attempt-as (rw (ne-eqb _ _ h)) (attempt-miss h)
 
   pub attempt-step : {p : Step} {n : ℕ} {s : S} → Silent p → Attempt x (step p) n s (yields x p s)
   attempt-step {p} {n} {s} z = record { derived = stepped; within = λ i m t. quiet t z }

@@ -5,7 +5,6 @@ use mathlib.Core.List.{List}
 use Prim.Native.Nat.{ℕ, _+_, _≤_, min}
 use native.Mathlib.Omega.{arith}
 use native.Mathlib.Decide.{ℕ-discrete, decLt}
-use borrow.Author.Tests.{ne-eqb}
 use Rattle.tables.specs.TokenKinds.{ELSE}
 use Rattle.grammar.specs.Derive.{Input, token, stmt, Start, End, close, G, step, _&_, rule, S, none, yields, stepped, and-left, here}
 use Rattle.grammar.specs.Grammar.{body, tok, elsePart, statement}
@@ -16,7 +15,7 @@ use Rattle.parser.specs.Steps.{joining}
 use Rattle.parser.specs.declared.cursor.Cursor.{Cursor}
 use Rattle.parser.specs.declared.cursor.Part.{Part}
 use Rattle.parser.specs.declared.cursor.StmtPart.{StmtPart}
-use Rattle.parser.proofs.Attempts.{attempt-as, attempt-and-not, attempt-or-else, attempt-miss, attempt-step}
+use Rattle.parser.proofs.Attempts.{attempt-and-not, attempt-or-else, attempt-absent, attempt-step}
 use Rattle.parser.proofs.Again.{again}
 use Rattle.parser.proofs.Laws.{clash, some, idle, absent, by-part, _then_}
 use Rattle.parser.proofs.Falls.{one-if, on, was}
@@ -31,8 +30,7 @@ unset e = omega (arith, ap one-if e)
 
 -- an `else` that is not there fails
 missing : {x : Input} {n : ℕ} {s : S} → (token x (s .at) .kind ≡ ELSE → ⊥) → Attempt x (tok ELSE & rule stmt) n s none
-unfolding yields
-missing h = attempt-and-not (attempt-as (rw (ne-eqb _ _ h)) (attempt-miss h))
+missing h = attempt-and-not (attempt-absent h)
 
 module _ {text w : List ℕ} where
   -- ---- what a reading keeps

@@ -82,10 +82,13 @@ pub becomes : {x : Input} {n : ℕ} {s : S} {g k : G} {M F : Type 0} → ((o : O
 becomes f e = record { matches = λ _ t. f (got t); fails = λ _. f none; exceeds = e }
 
 -- before a token that it cannot begin with, g fails and takes none
+pub miss : {x : Input} {n k : ℕ} {g : G} {s : S} → k ≡ token x (s .at) .kind → Absent k (firsts g) → Yes (not (empties g) && sane? solid g) → Attempt x g n s none
+miss e a y = record { derived = misses e a y; within = λ i m t. absurd (untaken e a t) }
+
 missed : (text w : List ℕ) {k : ℕ} {g : G} {p : Cursor} {s : S} → k ≡ tokenAt w (p .at) .kind → Absent k (firsts g) → Yes (not (empties g) && sane? solid g) → Represents p s → Attempt (input text w) g (p .nest) s none
 missed text w {k = k} {s = s} e a y v =
     let e′ : k ≡ token (input text w) (s .at) .kind = rw (← v .at, tokens-at) e in
-    record { derived = misses e′ a y; within = λ i m t. absurd (untaken e′ a t) }
+    miss e′ a y
 
 module _ {text w : List ℕ} where
   -- nothing is read where nothing is being read

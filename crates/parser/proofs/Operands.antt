@@ -1,46 +1,28 @@
 -- A name or a numeral alone, read with no look at what it could have been. Assumes nothing.
 use mathlib.Core.Path.{_≡_, refl, sym, ap, _∙_}
-use mathlib.Core.Bool.{not, _&&_}
 use mathlib.Core.List.{List, [], _∷_}
 use Prim.Native.Nat.{ℕ, suc, _+_, _≤_, _<_}
 use native.Mathlib.Omega.{arith}
-use lib.Dec.{T as Yes}
-use borrow.Author.Tests.{eq-eqb, ne-eqb}
 use Rattle.tables.specs.Tables.{Token, tokenAt}
 use Rattle.tables.specs.TokenKinds.{NUMBER, IDENT, NOT, MINUS, LPAREN, LBRACE, LBRACK, DOT}
 use Rattle.tables.proofs.Laws.{tokens-at}
 use Rattle.grammar.specs.Kinds.{Name, Identifier}
-use Rattle.grammar.specs.Derive.{Input, token, unary, Act, skip, leaf, literal, take, G, step, rule, S, Out, got, none, part, next, act, yields, enter, leave, here}
+use Rattle.grammar.specs.Derive.{Input, token, unary, Act, leaf, literal, take, step, rule, S, Out, got, part, next, act, enter, leave, here}
 use Rattle.grammar.specs.Grammar.{body, atom, numeral}
 use Rattle.grammar.proofs.Unique.{unique, apart}
-use Rattle.grammar.proofs.Progress.{sane?}
-use Rattle.grammar.proofs.Whole.{solid}
-use Rattle.grammar.proofs.First.{empties, firsts, Absent, misses, untaken}
+use Rattle.grammar.proofs.First.{Absent, misses}
 use Rattle.parser.specs.Parse.{input}
 use Rattle.parser.specs.Read.{LIMIT, Attempt, Exceeds, Represents, Reads}
 use Rattle.parser.specs.Steps.{Over, Plain, plain-name, plain-numeral, not-plain}
 use Rattle.parser.specs.declared.cursor.Cursor.{Cursor}
-use Rattle.parser.proofs.Attempts.{attempt-as, attempt-and-not, attempt-and-then, attempt-or-first, attempt-or-else, attempt-no-more, attempt-rule, attempt-take, attempt-miss}
+use Rattle.parser.proofs.Attempts.{attempt-as, attempt-and-not, attempt-and-then, attempt-or-first, attempt-or-else, attempt-no-more, attempt-rule, attempt-there, attempt-absent}
 use Rattle.parser.proofs.Attempts.{exceeds-and-left, exceeds-or-left, exceeds-or-right, exceeds-rule, exceeds-take}
-use Rattle.parser.proofs.Laws.{turned, as-deep, clash}
+use Rattle.parser.proofs.Laws.{turned, miss, as-deep, clash}
 
 pub over : {k : ℕ} → (k ≡ LPAREN → ⊥) → (k ≡ DOT → ⊥) → (k ≡ LBRACK → ⊥) → (k ≡ LBRACE → ⊥) → Over k
 over a b c d = record { no-call = a; no-field = b; no-index = c; no-struct = d }
 
 module _ {x : Input} {n : ℕ} where
-  miss : {k : ℕ} {g : G} {s : S} → k ≡ token x (s .at) .kind → Absent k (firsts g) → Yes (not (empties g) && sane? solid g) → Attempt x g n s none
-  miss e a y = record { derived = misses e a y; within = λ i m t. absurd (untaken e a t) }
-
-  -- a token taken that is there
-  there : {k : ℕ} {s : S} (a : Act) → token x (s .at) .kind ≡ k → n ≤ LIMIT → Attempt x (step (take k a)) n s (act x a (token x (s .at)) (next s))
-  unfolding yields
-  there a e h = attempt-as (rw (eq-eqb _ _ e)) (attempt-take h)
-
-  -- and one that is not
-  absent : {k : ℕ} {s : S} (a : Act) → (token x (s .at) .kind ≡ k → ⊥) → Attempt x (step (take k a)) n s none
-  unfolding yields
-  absent a h = attempt-as (rw (ne-eqb _ _ h)) (attempt-miss h)
-
   atom-name : {j : ℕ} {s : S} → token x (s .at) .kind ≡ IDENT → j ≡ token x (suc (s .at)) .kind → Over j → n ≤ LIMIT → Attempt x atom n s (act x (leaf Identifier 0) (token x (s .at)) (next s))
   atom-name e f o h =
       attempt-or-else
@@ -52,12 +34,12 @@ module _ {x : Input} {n : ℕ} where
       (attempt-or-else
       (miss (sym e) (omega arith) tt)
       (attempt-or-else
-      (attempt-and-then (there (leaf Name 0) e h) (attempt-and-not (absent skip (λ q. o .no-struct (f ∙ q)))))
+      (attempt-and-then (attempt-there (leaf Name 0) e h) (attempt-and-not (attempt-absent (λ q. o .no-struct (f ∙ q)))))
       (attempt-or-else
       (miss (sym e) (omega arith) tt)
       (attempt-or-else
       (miss (sym e) (omega arith) tt)
-      (attempt-or-first (there (leaf Identifier 0) e h))))))))
+      (attempt-or-first (attempt-there (leaf Identifier 0) e h))))))))
 
   -- an atom alone is a whole operand
   operand : {k j : ℕ} {s t : S} → k ≡ token x (s .at) .kind → Absent k (NOT ∷ MINUS ∷ []) → j ≡ token x (t .at) .kind → Over j → Attempt x atom n (enter s) (got t) → Attempt x (rule unary) n s (leave s (got t))
@@ -110,8 +92,8 @@ module _ {text w : List ℕ} {p q : Cursor} {T U : List ℕ} {k j r : ℕ} where
       turned (λ s v.
       let a : token (input text w) (s .at) .kind ≡ IDENT = sym (kind-is text w (s .at) (rw (v .at) at e)) ∙ i in
       record {
-        matches = λ z t c. attempt-as (unique (there (leaf Identifier 0) a (in-limit a c) .derived) (c .derived)) (operand (sym a) (omega arith) (next-is text w f v) o (atom-name a (next-is text w f v) o (in-limit a c)));
-        fails = λ z c. apart (unique (c .derived) (there (leaf Identifier 0) a (in-limit a c) .derived));
+        matches = λ z t c. attempt-as (unique (attempt-there (leaf Identifier 0) a (in-limit a c) .derived) (c .derived)) (operand (sym a) (omega arith) (next-is text w f v) o (atom-name a (next-is text w f v) o (in-limit a c)));
+        fails = λ z c. apart (unique (c .derived) (attempt-there (leaf Identifier 0) a (in-limit a c) .derived));
         exceeds = λ c. name-exceeds a (past-limit c);
       }) y
 
@@ -123,7 +105,7 @@ module _ {text w : List ℕ} {p q : Cursor} {T U : List ℕ} {k j r : ℕ} where
       turned (λ s v.
       let a : token (input text w) (s .at) .kind ≡ NUMBER = sym (kind-is text w (s .at) (rw (v .at) at e)) ∙ i in
       record {
-        matches = λ z t c. attempt-as (unique (there literal a (in-limit a c) .derived) (c .derived)) (operand (sym a) (omega arith) (next-is text w f v) o (attempt-or-first (there literal a (in-limit a c))));
-        fails = λ z c. apart (unique (c .derived) (there literal a (in-limit a c) .derived));
+        matches = λ z t c. attempt-as (unique (attempt-there literal a (in-limit a c) .derived) (c .derived)) (operand (sym a) (omega arith) (next-is text w f v) o (attempt-or-first (attempt-there literal a (in-limit a c))));
+        fails = λ z c. apart (unique (c .derived) (attempt-there literal a (in-limit a c) .derived));
         exceeds = λ c. numeral-exceeds a (past-limit c);
       }) y

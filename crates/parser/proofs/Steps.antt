@@ -17,7 +17,7 @@ use Rattle.parser.specs.Parse.{input, MAX16, MAX64}
 use Rattle.parser.specs.Read.{Attempt, Exceeds, Holds, READING, FAILED, Upto, Represents, Result, matched, failed, exceeded, Reads, still, reads}
 use Rattle.parser.specs.Steps.{Wanted, up, Halted, was-halted, halts, Advanced, not-reading, not-there, too-deep, advanced, with-mark, with-part, counted, Closed, not-closed, closes}
 use Rattle.parser.specs.declared.cursor.Cursor.{Cursor}
-use Rattle.parser.proofs.Attempts.{attempt-as, attempt-take, attempt-miss, attempt-step, exceeds-by, exceeds-take}
+use Rattle.parser.proofs.Attempts.{attempt-as, attempt-take, attempt-absent, attempt-step, exceeds-by, exceeds-take}
 use Rattle.parser.proofs.Cursors.{upto-as, near, test, upto-up, seen-as, represents-past, represents-mark, represents-emit, represents-closed}
 use Rattle.parser.proofs.Holding.{entry-is, holds-more}
 use Rattle.parser.proofs.Laws.{clash, status-as, kept, idle}
@@ -73,7 +73,7 @@ module _ {text w : List ℕ} {k : ℕ} {p q : Cursor} where
   stopped h (not-there y n e) z =
       reads y (λ s v.
       let miss : token (input text w) (s .at) .kind ≡ k → ⊥ = λ i. n h (rw (next-token text w v) at i) in
-      failed e (attempt-as (rw (ne-eqb _ _ miss)) (attempt-miss miss)) (λ H. H))
+      failed e (attempt-absent miss) (λ H. H))
   stopped h (too-deep y i l e) z = reads y (λ s v. exceeded e (exceeds-take (rw (next-token text w v) i) l))
   stopped h (advanced y i l b e) z = absurd (z (status-as e y))
 
