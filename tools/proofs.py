@@ -1,5 +1,5 @@
 #!/usr/bin/env python3
-"""Writes the proof files of the readers (crates/parser/proofs/**/Proof*) from tools/readers.txt.
+"""Writes the proof files of the readers (crates/{expressions,statements,parser}/proofs/**/Proof*) from tools/readers.txt.
 
 A recipe says, for each return of a reader, its grammar rule in laws: the name of a call, a test or a loop stands for
 what it ensures, says or keeps. This binds the paths to those facts, which tools/places.txt has from the checker, and
@@ -7,12 +7,16 @@ answers the needs that are alike in all readers: what a call requires, that the 
 
 usage: proofs.py          write the files
        proofs.py check    say which files differ from what would be written, and fail if one does
-       proofs.py places   write tools/places.txt anew, after a change of the readers' code (some minutes)"""
+       proofs.py places CRATE
+                          write tools/places.txt anew for a crate, after a change of its readers' code (a minute or two; the crates below are proved)"""
 import glob, os, re, subprocess, sys
 
 TOP = os.path.dirname(os.path.dirname(os.path.abspath(__file__)))
-CRATE = os.path.join(TOP, "crates/parser")
-MOD = "Rattle.parser.proofs."
+# the steps that readers are made of, and the readers, lowest first
+STEPS, CRATES = "cursor", ("expressions", "statements", "parser")
+# where a crate's proofs are, for itself and for another crate
+proofs = lambda crate, seen_from: f"Rattle.{crate}.proofs." if crate == seen_from else f"Rattle.{crate}.proofs."
+folder = lambda crate: os.path.join(TOP, "crates", crate)
 # a contract's relation: the law that makes a reading of it, and the law that says how far on it is
 READ = {"Reads": ("", "on"), "Puts": ("one-put", "on-put"), "Grown": ("one-grown", "on-grown"), "Step": ("one-step", "on-step"), "Free": ("one-free", "on-free")}
 # those that speak of one text
@@ -20,7 +24,7 @@ TEXTED = ("Reads", "Inside", "Ends", "")
 OWN = {"Reads": "", "Puts": "λ text. ", "Grown": "λ text w. ", "Step": "λ text T. ", "Free": "λ text w T. "}
 MAKE = {"Puts": "puts", "Grown": "grown", "Step": "steps", "Free": "free"}
 # the forms of parameters that proofs/Cycles has measures for
-FORMS = {("text", "tokens", "nodes", "cursor"): "reader", ("text", "tokens", "nodes", "cursor", "n"): "level", ("text", "tokens", "nodes", "cursor", "kind"): "level", ("tokens", "nodes", "cursor"): "pattern",
+FORMS = {("text", "tokens", "nodes", "cursor"): "reader", ("text", "tokens", "nodes", "cursor", "n"): "level", ("text", "tokens", "nodes", "cursor", "kind"): "level",
          ("text", "tokens", "nodes", "at", "count", "nest"): "inside", ("text", "tokens", "nodes", "at", "count", "nest", "n"): "inside-level"}
 # calls that read nothing by themselves
 PLAIN = ("enter", "leave", "skip", "peek", "second", "begin", "ended", "ended-with", "join", "inner")
@@ -31,9 +35,9 @@ dash = lambda f: f.replace("_", "-")
 
 
 class Fn:
-    """A function of the crate's source: its module, parameters, the relation and grammar that its contract has, its calls."""
-    def __init__(self, module, name, params, head, body):
-        self.module, self.name, self.params = module, name, params
+    """A function of the source: its crate and module, parameters, the relation and grammar that its contract has, its calls."""
+    def __init__(self, crate, module, name, params, head, body):
+        self.crate, self.module, self.name, self.params = crate, module, name, params
         m = re.search(r"ensures \{ λ r\. ⌜ (?:Wanted kind \()?(\w+) (\(.*?\)|\w+) \((?:now|self)", head) or re.search(r"⌜ (?:Wanted kind \()?(\w+) (\(.*?\)|\w+) (?:cursor|self)\b", head)
         self.relation, self.grammar = (m.group(1), m.group(2)) if m else ("", "")
         self.body = body
@@ -41,7 +45,7 @@ class Fn:
 
 def source():
     fns = {}
-    for path in sorted(glob.glob(os.path.join(CRATE, "src/*.rt"))):
+    for crate, path in [(c, p) for c in (STEPS, *CRATES) for p in sorted(glob.glob(os.path.join(folder(c), "src/*.rt")))]:
         text = open(path).read()
         module = os.path.basename(path)[:-3]
         for m in re.finditer(r"^( *)(?:pub |pub\(crate\) )?fn (\w+)\((.*?)\)(?: -> [^\n]*)?\n(.*?)^\1\{\n(.*?)^\1\}\n", text, re.M | re.S):
@@ -49,9 +53,9 @@ def source():
             for u in re.finditer(r"ghost use Rattle\.grammar\.specs\.(\w+)\.\{(.*?)\}", text):
                 for n in u.group(2).split(","): names[n.strip()] = u.group(1)
             params = [p.split(":")[0].replace("mut ", "").strip() for p in m.group(3).split(",") if p.strip()]
-            where = "" if module == "lib" else module + "/" + ("Cursor/" if m.group(1) else "")
+            where = ("" if module == "lib" else module + "/") + ("Cursor/" if m.group(1) else "")
             assert m.group(2) not in fns, m.group(2)
-            fns[m.group(2)] = Fn(where, m.group(2), params, m.group(4), m.group(5))
+            fns[m.group(2)] = Fn(crate, where, m.group(2), params, m.group(4), m.group(5))
             fns[m.group(2)].names = names
     return fns
 
@@ -108,7 +112,7 @@ def generated(path):
     p.needs = re.findall(r"\((\S+) :", last.group(1))
     p.loops = re.findall(r"^abbrev pub InvT-(\S+) :", text, re.M)
     p.lifetimes = re.search(r"\(κs : Lifetimes\.Lfts (\d+)\)", text).group(1)
-    p.callees = list(dict.fromkeys(re.findall(r'\n\s+"([\w:]+)"\)', text[last.end():])))
+    p.callees = list(dict.fromkeys(re.findall(r'\s"(\w+(?:::\w+)+)"\)', text[last.end():])))
     for need in p.needs:
         cur = re.search(r"\n\s+Need-" + re.escape(need) + r" =\s+\(c : ([^ )]+)", text).group(1)
         depth, out, lent = 0, [], False
@@ -126,25 +130,25 @@ def generated(path):
     return p
 
 
-def stub(path, statement, name):
+def stub(crate, path, statement, name):
     """a proof file with a hole, as the checker goes into a function's callers only if there is one"""
-    full = os.path.join(CRATE, "proofs", path, "Proof.antt")
+    full = os.path.join(folder(crate), "proofs", path, "Proof.antt")
     if not os.path.exists(full):
         os.makedirs(os.path.dirname(full), exist_ok=True)
-        open(full, "w").write(f"use {MOD}{path.replace('/', '.')}{statement}.{{statement}}\n\npub {dash(name)}-spec : {{M : Type 1}} → statement M\n{dash(name)}-spec = ?\n")
+        open(full, "w").write(f"use {proofs(crate, crate)}{path.replace('/', '.')}{statement}.{{statement}}\n\npub {dash(name)}-spec : {{M : Type 1}} → statement M\n{dash(name)}-spec = ?\n")
 
 
-def refresh(groups, cycles):
-    """has the checker write its records, and keeps what they say in tools/places.txt"""
-    for name in groups: stub(FNS[name].module + name, ".Statement", name)
+def refresh(crate, groups, cycles):
+    """has the checker write its records of a crate, and keeps what they say in tools/places.txt"""
+    for name in groups:
+        if FNS[name].crate == crate: stub(crate, FNS[name].module + name, ".Statement", name)
     for names in cycles.values():
         cycle_name = "".join("+" + n for n in sorted(names))
-        stub(FNS[names[0]].module + cycle_name, "", cycle_name)
+        if FNS[names[0]].crate == crate: stub(crate, FNS[names[0]].module + cycle_name, "", cycle_name)
     out = os.path.join(TOP, "target/generated")
-    subprocess.run(["rt", "dev", "parser", "--generated", out], cwd=TOP, stdout=subprocess.DEVNULL, stderr=subprocess.DEVNULL)
-    gen = os.path.join(out, "Rattle.parser.proofs/proofs")
-    found = {}
-    for path in glob.glob(gen + "/**/Lts*.antt", recursive=True):
+    subprocess.run(["rt", "dev", crate, "--generated", out], cwd=TOP, stdout=subprocess.DEVNULL, stderr=subprocess.DEVNULL)
+    found = {name: p for name, p in places().items() if name in FNS and FNS[name].crate != crate}
+    for path in glob.glob(os.path.join(out, f"Rattle.{crate}.proofs/proofs") + "/**/Lts*.antt", recursive=True):
         m = re.search(r"/Lts-(\w+)\.antt$|/(\w+)/Lts\.antt$", path)
         name = m.group(1) or m.group(2)
         if name in READERS: found[name] = generated(path)
@@ -331,7 +335,7 @@ class Reader:
 
 
 def exports():
-    t = open(os.path.join(CRATE, "proofs/Reading.antt")).read()
+    t = open(os.path.join(folder(STEPS), "proofs/Reading.antt")).read()
     return [x.strip().split(" as ")[-1] for m in re.finditer(r"pub use \S+\.\{(.*?)\}", t, re.S) for x in m.group(1).split(",")]
 
 def uses(body):
@@ -339,7 +343,7 @@ def uses(body):
     for n in exports():
         core = n.strip("_")
         if re.search(r"(?<![\w.·?-])" + re.escape(core) + r"(?![\w·?-])", body): names.append(n)
-    s = "use " + MOD + "Reading.{" + ", ".join(names) + "}\n"
+    s = f"use Rattle.{STEPS}.proofs.Reading." + "{" + ", ".join(names) + "}\n"
     for a, m in (("G", "Derive"), ("L", "Grammar")):
         if f"{a}." in body: s += f"use Rattle.grammar.specs.{m} as {a}\n"
     return s
@@ -348,21 +352,23 @@ def alone(fn, recipe):
     path, f = fn.module + fn.name, dash(fn.name)
     lts = PLACES[fn.name]
     r = Reader(fn, recipe, lts, {}, FAR)
-    opens = " ".join(["body"] + recipe.get("opens", "").split()) if fn.module != "cursor/" else recipe.get("opens", "")
+    opens = " ".join(["body"] + recipe.get("opens", "").split())
     s = r.invariants("tie") + f"\npub {f}-spec : {{M : Type 1}} → statement M\n" + (f"unfolding {opens}\n" if opens else "") + f"{f}-spec = tie.close (tie.spec" + (" Inv-loop μ-loop" if r.loop else "") + "\n"
     s += "".join(r.answer(n, []) for n in lts.needs).rstrip() + ")\n"
-    mod = MOD + path.replace("/", ".")
-    return {f"{path}/Proof.antt": f"-- `{fn.name}` meets its contract. Assumes nothing.\n" + uses(s) + f"use {mod}.Statement.{{statement}}\nuse {mod}.Tie as tie\n" + s}
+    mod = proofs(fn.crate, fn.crate) + path.replace("/", ".")
+    return {f"{fn.crate}/proofs/{path}/Proof.antt": f"-- `{fn.name}` meets its contract. Assumes nothing.\n" + uses(s) + f"use {mod}.Statement.{{statement}}\nuse {mod}.Tie as tie\n" + s}
 
 def cycle(fns, rs):
     """one file for each reader of a cycle of calls, and one that ties them"""
     fns = sorted(fns, key=lambda f: f.name)
-    where = fns[0].module
+    crate, where = fns[0].crate, fns[0].module
+    own_proofs, to = proofs(crate, crate), f"{crate}/proofs/{where}"
     name = "".join("+" + f.name for f in fns)
-    mod, files = MOD + (where + name).replace("/", "."), {}
+    mod, files = own_proofs + (where + name).replace("/", "."), {}
+    measures = proofs(CRATES[0], crate) + "Cycles"
     members = [dash(f.name) for f in fns]
     ranks = {dash(f.name): rs[f.name]["rank"] for f in fns}
-    at = {dash(f.name): MOD + (where + f.name).replace("/", ".") for f in fns}
+    at = {dash(f.name): own_proofs + (where + f.name).replace("/", ".") for f in fns}
     lts = {dash(f.name): PLACES[f.name] for f in fns}
     form = {dash(f.name): FORMS[tuple(f.params)] for f in fns}
     cap = lambda f: f.replace("-", "_").capitalize()
@@ -372,20 +378,19 @@ def cycle(fns, rs):
         below = []
         for c in lts[f].callees:
             parts = c.split("::"); g = dash(parts[-1])
-            crate = "Rattle.parser.proofs." if parts[0] == "parser" else f"Rattle.{parts[0]}.proofs."
-            if g in members and parts[0] == "parser" and FNS[parts[-1]].module == where: given += [f"{form[g]}-below {ranks[g]} t", f"{g}.Post"]; below.append(f"{form[g]}-below"); own.add(f"use {at[g]}.Reads as {g}")
-            else: given += [f"{g}-reads.Asked", f"{g}-reads.Learnt"]; own.add(f"use {crate}{'.'.join(parts[1:])}.Reads as {g}-reads")
+            if g in members and parts[0] == crate and FNS[parts[-1]].module == where: given += [f"{form[g]}-below {ranks[g]} t", f"{g}.Post"]; below.append(f"{form[g]}-below"); own.add(f"use {at[g]}.Reads as {g}")
+            else: given += [f"{g}-reads.Asked", f"{g}-reads.Learnt"]; own.add(f"use {proofs(parts[0], crate)}{'.'.join(parts[1:])}.Reads as {g}-reads")
         s = f"\nabbrev given : ℕ → lts.Claims\ngiven t = ({', '.join(given)})\n" + r.invariants("lts")
         opens = " ".join(["body"] + rs[fn.name].get("opens", "").split())
         s += f"\npub {f}-spec : {{M : Type 1}} (t : ℕ) → lts.Closed (given t) ({form[f]}-at {ranks[f]} t) {f}.Post M\nunfolding {opens}\n{f}-spec t = lts.spec (given t) ({form[f]}-at {ranks[f]} t) {f}.Post" + (" Inv-loop μ-loop" if r.loop else "") + "\n"
         s += "".join(r.answer(n, members) for n in lts[f].needs)
-        head = f"-- The reader `{fn.name}` of the cycle. Assumes nothing.\n" + uses(s + " ℕ") + "\n".join(sorted(own)) + f"\nuse {mod}.Lts-{fn.name} as lts\nuse {MOD}Cycles.{{" + ", ".join(sorted({f"{form[f]}-at", *below})) + "}\n"
-        files[f"{where}{name}/Proof/{cap(f)}.antt"] = head + s
+        head = f"-- The reader `{fn.name}` of the cycle. Assumes nothing.\n" + uses(s + " ℕ") + "\n".join(sorted(own)) + f"\nuse {mod}.Lts-{fn.name} as lts\nuse {measures}.{{" + ", ".join(sorted({f"{form[f]}-at", *below})) + "}\n"
+        files[f"{to}{name}/Proof/{cap(f)}.antt"] = head + s
     spec = dash(name)
     s = "-- The proof of a cycle of readers: a file for each. Assumes nothing.\n" + "".join(f"mod {cap(f)}\n" for f in members) + "".join(f"use {cap(f)}.{{{f}-spec}}\n" for f in members)
-    s += f"use {MOD}Cycles.{{" + ", ".join(sorted({"μ-" + form[f] for f in members})) + "}\n"
+    s += f"use {measures}.{{" + ", ".join(sorted({"μ-" + form[f] for f in members})) + "}\n"
     s += f"use {mod}.{{statement}}\nuse {mod}.Tie.{{close}}\n\npub {spec}-spec : {{M : Type 1}} → statement M\n{spec}-spec = close " + " ".join(f"(μ-{form[f]} {ranks[f]})" for f in members) + " " + " ".join(f + "-spec" for f in members) + "\n"
-    files[f"{where}{name}/Proof.antt"] = s
+    files[f"{to}{name}/Proof.antt"] = s
     return files
 
 
@@ -400,7 +405,7 @@ def main():
     for name, r in rs.items():
         if "rank" in r: cycles.setdefault(r["rank"].split()[0], []).append(name); r["rank"] = " ".join(r["rank"].split()[1:])
         else: groups.append(name)
-    if sys.argv[1:2] == ["places"]: return refresh(groups, cycles)
+    if sys.argv[1:2] == ["places"]: return refresh(sys.argv[2], groups, cycles)
     PLACES.update(places())
     files = {}
     for name in groups:
@@ -409,7 +414,7 @@ def main():
         files.update(cycle([FNS[n] for n in names], rs))
     bad = []
     for path, text in files.items():
-        full = os.path.join(CRATE, "proofs", path)
+        full = os.path.join(TOP, "crates", path)
         old = open(full).read() if os.path.exists(full) else None
         if old == text: continue
         bad.append(path)

@@ -10,15 +10,15 @@ use Rattle.grammar.specs.Derive.{Input, S, Out, got, begin, Derives}
 use Rattle.grammar.specs.Grammar.{body, file, Tree, Deep}
 use Rattle.grammar.proofs.Unique.{unique, same}
 use Rattle.grammar.proofs.Whole.{tree-one}
-use Rattle.parser.specs.Parse.{input, entryOf}
-use Rattle.parser.specs.Read.{Attempt, READING, Represents, Result, matched, failed, exceeded, Reads, still, reads, start}
+use Rattle.cursor.specs.Entries.{input, entryOf}
+use Rattle.cursor.specs.Read.{Attempt, READING, Represents, Result, matched, failed, exceeded, Reads, still, reads, start}
 use Rattle.parser.specs.Parse.{Verdict, tree, syntax, deep, VerdictIs, is-deep, is-tree, is-syntax, answerOf, nodesOf, ParsedIs}
-use Rattle.parser.specs.declared.cursor.Cursor.{Cursor}
+use Rattle.cursor.specs.declared.Cursor.{Cursor}
 use Rattle.parser.specs.declared.Parsed.{Parsed}
 use Rattle.parser.specs.declared.Parsed.the-variants as Parsed
-use Rattle.parser.proofs.Cursors.{near}
-use Rattle.parser.proofs.Holding.{holds-none, held}
-use Rattle.parser.proofs.Laws.{clash, fine}
+use Rattle.cursor.proofs.Cursors.{near}
+use Rattle.cursor.proofs.Holding.{holds-none, held}
+use Rattle.cursor.proofs.Laws.{clash, fine}
 
 result : {text w : List ℕ} {p : Cursor} {T U : List ℕ} → Reads file text w start T p U → Result file text w start begin T p U
 result (still n e f) = absurd (n refl)

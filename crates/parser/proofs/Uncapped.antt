@@ -9,7 +9,7 @@ use Rattle.grammar.specs.Derive.{Input, token}
 use Rattle.grammar.specs.Grammar.{Tree}
 use Rattle.grammar.proofs.Spans.{Ordered, Each, no-node, node}
 use Rattle.grammar.proofs.Fits.{NodeFits, fits}
-use Rattle.parser.specs.Parse.{MAX16, MAX64, entryOf}
+use Rattle.cursor.specs.Entries.{MAX16, MAX64, entryOf}
 
 entry-same : (n : Node) → NodeFits n → entryOf n ≡ encodeNode n
 unfolding entryOf

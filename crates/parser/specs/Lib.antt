@@ -1,3 +1,1 @@
 pub mod Parse
-pub mod Read
-pub mod Steps

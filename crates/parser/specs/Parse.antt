@@ -3,15 +3,13 @@ use mathlib.Core.Path.{_≡_}
 use mathlib.Core.List.{List}
 use Prim.Native.Nat.{ℕ, min}
 use lib.ListN.{length, replicate}
-use Rattle.tables.specs.Tables.{Token, Node, encodeNode, tokensOf, table}
+use Rattle.tables.specs.Tables.{Token, Node, table}
 use Rattle.grammar.specs.Derive.{Input}
 use Rattle.grammar.specs.Grammar.{Tree, Deep}
+pub use Rattle.cursor.specs.Entries.{input, MAX16, MAX64}
+unfoldable pub use Rattle.cursor.specs.Entries.{entryOf}
 use Rattle.parser.specs.declared.Parsed.{Parsed}
 use Rattle.parser.specs.declared.Parsed.the-variants as Parsed
-
--- a text and the table of its tokens, as the grammar has them
-abbrev pub input : List ℕ → List ℕ → Input
-input text w = record { text = text; tokens = tokensOf w }
 
 -- ---- the verdict
 -- what a text's tokens are to the grammar: the nodes of a tree, or what 01 has as outcomes 7 and 5
@@ -26,19 +24,6 @@ pub data VerdictIs (x : Input) : Verdict → Type 0 where
   is-syntax : (Deep x → ⊥) → ((ns : List Node) (us : List Token) → Tree x ns us → ⊥) → VerdictIs x syntax
 
 -- ---- the answer and the node table
-
--- the largest number of 16 bits
-abbrev pub MAX16 : ℕ
-MAX16 = 65535
-
--- and of 64
-abbrev pub MAX64 : ℕ
-MAX64 = 18446744073709551615
-
--- a node's entry; a field too large for its bits would be the largest that they hold, which no node of a real text has (`uncapped`)
-unfoldable pub entryOf : Node → List ℕ
-entryOf n =
-    encodeNode (record { kind = n .kind; start = min (n .start) MAX16; end = min (n .end) MAX16; children = min (n .children) MAX16; value = min (n .value) MAX64 })
 
 -- the answer: all nodes of a tree are counted, stored or not, so that outcome 6 can be told
 abbrev pub answerOf : Verdict → Parsed

@@ -1,14 +1,14 @@
 // Items: functions, structs, constants and uses.
 ghost use Rattle.grammar.specs.Derive.{rule, type, param, unit, item, many};
 ghost use Rattle.grammar.specs.Grammar.{name, list, field, fields, parameter, resultType, function, structDef, segment, useSingle, useList, useDef, file};
-ghost use Rattle.parser.specs.Read.{Reads, Puts, Grown};
-use crate::cursor::Cursor;
-use crate::cursor::FAILED;
-use crate::cursor::READING;
-use crate::statements::const_def;
-use crate::statements::stmts;
-use crate::types::type_expr;
+ghost use Rattle.cursor.specs.Read.{Reads, Puts, Grown};
+use cursor::Cursor;
+use cursor::FAILED;
+use cursor::READING;
 use grammar::node_kind;
+use statements::const_def;
+use statements::stmts;
+use statements::types::type_expr;
 use tables::token_type::ARROW;
 use tables::token_type::COLON;
 use tables::token_type::COLON_COLON;

@@ -1,19 +1,14 @@
 // The readers of Cairo-M: tokens to nodes. Each says which part of the grammar it reads.
-mod cursor;
-mod expressions;
 mod items;
-mod let_pattern;
-mod statements;
-mod types;
 
-use crate::cursor::Cursor;
-use crate::cursor::READING;
 use crate::items::items;
+use cursor::Cursor;
+use cursor::READING;
 use tables::node::keep_nodes;
 use tables::token::room;
 ghost use lib.ListN.{length};
 ghost use Rattle.grammar.specs.Grammar.{file};
-ghost use Rattle.parser.specs.Read.{Reads, start};
+ghost use Rattle.cursor.specs.Read.{Reads, start};
 ghost use Rattle.parser.specs.Parse.{ParsedIs};
 
 // What a text's tokens are: a tree with so many nodes, no tree, or too deep.

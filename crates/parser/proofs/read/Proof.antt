@@ -1,6 +1,6 @@
 -- `read` meets its contract. Assumes nothing.
 use borrow.Author.Needs.{needs}
-use Rattle.parser.proofs.Laws.{reads-as}
+use Rattle.cursor.proofs.Laws.{reads-as}
 use Rattle.parser.proofs.read.Statement.{statement}
 use Rattle.parser.proofs.read.Tie as tie
 

@@ -1,5 +1,5 @@
 -- `function_def` meets its contract. Assumes nothing.
-use Rattle.parser.proofs.Reading.{_∙_, body, one-put, one-step, _then_}
+use Rattle.cursor.proofs.Reading.{_∙_, body, one-put, one-step, _then_}
 use Rattle.parser.proofs.items.function_def.Statement.{statement}
 use Rattle.parser.proofs.items.function_def.Tie as tie
 

@@ -1,5 +1,5 @@
 -- `item` meets its contract. Assumes nothing.
-use Rattle.parser.proofs.Reading.{refl, body, idle, one-put, only, pass, by-rule}
+use Rattle.cursor.proofs.Reading.{refl, body, idle, one-put, only, pass, by-rule}
 use Rattle.grammar.specs.Derive as G
 use Rattle.parser.proofs.items.item.Statement.{statement}
 use Rattle.parser.proofs.items.item.Tie as tie

@@ -1,5 +1,5 @@
 -- `items` meets its contract. Assumes nothing.
-use Rattle.parser.proofs.Reading.{refl, _∙_, arith, body, size, on, further, Looping, rounds-begin, rounds-next, rounds-end, rounds-off}
+use Rattle.cursor.proofs.Reading.{refl, _∙_, arith, body, size, on, further, Looping, rounds-begin, rounds-next, rounds-end, rounds-off}
 use Rattle.grammar.specs.Derive as G
 use Rattle.parser.proofs.items.items.Statement.{statement}
 use Rattle.parser.proofs.items.items.Tie as tie

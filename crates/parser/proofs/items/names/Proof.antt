@@ -1,5 +1,5 @@
 -- `names` meets its contract. Assumes nothing.
-use Rattle.parser.proofs.Reading.{refl, _∙_, List, [], ℕ, arith, body, puts, one-put, one-step, _then_, size, on-put, on-step, _and-on_, further, Looping, rounds-begin, rounds-next, listed-none, listed-end, listed-off}
+use Rattle.cursor.proofs.Reading.{refl, _∙_, List, [], ℕ, arith, body, puts, one-put, one-step, _then_, size, on-put, on-step, _and-on_, further, Looping, rounds-begin, rounds-next, listed-none, listed-end, listed-off}
 use Rattle.grammar.specs.Grammar as L
 use Rattle.parser.proofs.items.names.Statement.{statement}
 use Rattle.parser.proofs.items.names.Tie as tie

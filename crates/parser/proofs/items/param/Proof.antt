@@ -1,5 +1,5 @@
 -- `param` meets its contract. Assumes nothing.
-use Rattle.parser.proofs.Reading.{refl, _∙_, body, idle, one-put, one-grown, one-step, _then_, by-rule}
+use Rattle.cursor.proofs.Reading.{refl, _∙_, body, idle, one-put, one-grown, one-step, _then_, by-rule}
 use Rattle.grammar.specs.Derive as G
 use Rattle.parser.proofs.items.param.Statement.{statement}
 use Rattle.parser.proofs.items.param.Tie as tie

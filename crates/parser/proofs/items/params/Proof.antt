@@ -1,5 +1,5 @@
 -- `params` meets its contract. Assumes nothing.
-use Rattle.parser.proofs.Reading.{refl, _∙_, arith, body, one-step, one-free, _then_, size, on, on-step, on-free, _and-on_, further, Looping, rounds-begin, rounds-next, listed-none, listed-miss, listed-end, listed-off}
+use Rattle.cursor.proofs.Reading.{refl, _∙_, arith, body, one-step, one-free, _then_, size, on, on-step, on-free, _and-on_, further, Looping, rounds-begin, rounds-next, listed-none, listed-miss, listed-end, listed-off}
 use Rattle.grammar.specs.Grammar as L
 use Rattle.parser.proofs.items.params.Statement.{statement}
 use Rattle.parser.proofs.items.params.Tie as tie

@@ -1,5 +1,5 @@
 -- `return_type` meets its contract. Assumes nothing.
-use Rattle.parser.proofs.Reading.{_∙_, body, one-grown, one-step, _then_, first, other}
+use Rattle.cursor.proofs.Reading.{_∙_, body, one-grown, one-step, _then_, first, other}
 use Rattle.parser.proofs.items.return_type.Statement.{statement}
 use Rattle.parser.proofs.items.return_type.Tie as tie
 

@@ -1,5 +1,5 @@
 -- `segments` meets its contract. Assumes nothing.
-use Rattle.parser.proofs.Reading.{refl, _∙_, List, [], ℕ, arith, body, puts, one-put, one-step, one-free, _then_, size, on-put, on-step, on-free, _and-on_, further, Looping, rounds-begin, rounds-next, rounds-end, rounds-off}
+use Rattle.cursor.proofs.Reading.{refl, _∙_, List, [], ℕ, arith, body, puts, one-put, one-step, one-free, _then_, size, on-put, on-step, on-free, _and-on_, further, Looping, rounds-begin, rounds-next, rounds-end, rounds-off}
 use Rattle.grammar.specs.Grammar as L
 use Rattle.parser.proofs.items.segments.Statement.{statement}
 use Rattle.parser.proofs.items.segments.Tie as tie

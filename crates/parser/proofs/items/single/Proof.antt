@@ -1,5 +1,5 @@
 -- `single` meets its contract. Assumes nothing.
-use Rattle.parser.proofs.Reading.{_∙_, body, puts, one-put, one-step, _then_}
+use Rattle.cursor.proofs.Reading.{_∙_, body, puts, one-put, one-step, _then_}
 use Rattle.parser.proofs.items.single.Statement.{statement}
 use Rattle.parser.proofs.items.single.Tie as tie
 

@@ -1,5 +1,5 @@
 -- `struct_field` meets its contract. Assumes nothing.
-use Rattle.parser.proofs.Reading.{_∙_, body, one-put, one-step, _then_}
+use Rattle.cursor.proofs.Reading.{_∙_, body, one-put, one-step, _then_}
 use Rattle.parser.proofs.items.struct_field.Statement.{statement}
 use Rattle.parser.proofs.items.struct_field.Tie as tie
 

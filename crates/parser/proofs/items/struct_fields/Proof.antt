@@ -1,5 +1,5 @@
 -- `struct_fields` meets its contract. Assumes nothing.
-use Rattle.parser.proofs.Reading.{refl, _∙_, arith, body, one-step, _then_, size, on, on-step, _and-on_, further, Looping, rounds-begin, rounds-next, listed-none, listed-miss, listed-end, listed-off}
+use Rattle.cursor.proofs.Reading.{refl, _∙_, arith, body, one-step, _then_, size, on, on-step, _and-on_, further, Looping, rounds-begin, rounds-next, listed-none, listed-miss, listed-end, listed-off}
 use Rattle.grammar.specs.Derive as G
 use Rattle.grammar.specs.Grammar as L
 use Rattle.parser.proofs.items.struct_fields.Statement.{statement}

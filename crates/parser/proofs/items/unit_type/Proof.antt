@@ -1,5 +1,5 @@
 -- `unit_type` meets its contract. Assumes nothing.
-use Rattle.parser.proofs.Reading.{refl, body, grown, idle, one-grown, by-rule}
+use Rattle.cursor.proofs.Reading.{refl, body, grown, idle, one-grown, by-rule}
 use Rattle.grammar.specs.Derive as G
 use Rattle.parser.proofs.items.unit_type.Statement.{statement}
 use Rattle.parser.proofs.items.unit_type.Tie as tie

@@ -1,5 +1,5 @@
 -- `use_list` meets its contract. Assumes nothing.
-use Rattle.parser.proofs.Reading.{_∙_, body, puts, one-put, one-step, one-free, _then_}
+use Rattle.cursor.proofs.Reading.{_∙_, body, puts, one-put, one-step, one-free, _then_}
 use Rattle.parser.proofs.items.use_list.Statement.{statement}
 use Rattle.parser.proofs.items.use_list.Tie as tie
 

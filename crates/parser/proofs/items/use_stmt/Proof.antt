@@ -1,5 +1,5 @@
 -- `use_stmt` meets its contract. Assumes nothing.
-use Rattle.parser.proofs.Reading.{_∙_, body, puts, one-put, one-step, _then_, first, other}
+use Rattle.cursor.proofs.Reading.{_∙_, body, puts, one-put, one-step, _then_, first, other}
 use Rattle.parser.proofs.items.use_stmt.Statement.{statement}
 use Rattle.parser.proofs.items.use_stmt.Tie as tie
 

@@ -1,0 +1,15 @@
+pub mod Attempts
+pub mod Again
+pub mod Cursors
+pub mod Holding
+pub mod Laws
+pub mod Falls
+pub mod Elses
+pub mod Loops
+pub mod Lists
+pub mod Shapes
+pub mod Steps
+pub mod Prefixes
+pub mod Levels
+pub mod Operands
+pub mod Reading

@@ -1,0 +1,48 @@
+// Patterns: a tuple of two or more, or a name.
+ghost use Rattle.grammar.specs.Derive.{rule, pattern, many, _&_};
+ghost use Rattle.grammar.specs.Grammar.{another};
+ghost use Rattle.cursor.specs.Read.{Reads};
+use cursor::Cursor;
+use cursor::FAILED;
+use cursor::READING;
+use grammar::node_kind;
+use tables::token_type::COMMA;
+use tables::token_type::L_PAREN;
+use tables::token_type::R_PAREN;
+
+pub fn pattern(text: &[u8], tokens: &[u8], nodes: &mut [u8], cursor: Cursor) -> Cursor
+    ensures { λ r. ⌜ Reads (rule pattern) (now (text .entry)) (now (tokens .entry)) cursor (now (nodes .entry)) r (now (nodes .exit)) ⌝ }
+{
+    if cursor.status != READING {
+        return cursor;
+    }
+    let p = cursor.enter(1);
+    let k = p.peek(tokens);
+    if k == L_PAREN {
+        let p = p.take(tokens, L_PAREN);
+        let p = pattern(text, tokens, nodes, p);
+        let p = p.take(tokens, COMMA);
+        let p = pattern(text, tokens, nodes, p);
+        let p = patterns(text, tokens, nodes, p);
+        let p = p.take(tokens, R_PAREN);
+        let p = p.spanless(nodes, node_kind::PATTERN_TUPLE);
+        return p.leave(cursor);
+    }
+    let p = p.spanned_ident(tokens, nodes);
+    p.leave(cursor)
+}
+
+fn patterns(text: &[u8], tokens: &[u8], nodes: &mut [u8], cursor: Cursor) -> Cursor
+    ensures { λ r. ⌜ Reads (many (another (rule pattern))) (now (text .entry)) (now (tokens .entry)) cursor (now (nodes .entry)) r (now (nodes .exit)) ⌝ }
+{
+    let mut p = cursor;
+    while p.status == READING {
+        let q = p.take(tokens, COMMA);
+        let q = pattern(text, tokens, nodes, q);
+        if q.status == FAILED {
+            return p;
+        }
+        p = q;
+    }
+    p
+}
