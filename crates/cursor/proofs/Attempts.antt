@@ -65,6 +65,21 @@ module _ {x : Input} where
   attempt-or-else c e =
       record { derived = or-else (c .derived) (e .derived); within = λ i m t. elim t [ or-left u ↦ c .within i m u | or-right d u ↦ e .within i m u ] }
 
+  -- one alternative alone, where the other fails
+  pub attempt-second : {g h : G} {n : ℕ} {s : S} {o : Out} → Attempt x g n s none → Attempt x (g or h) n s o → Attempt x h n s o
+  attempt-second {g} {h} {n} {s} {o} c e = record { derived = go (e .derived); within = λ i m t. e .within i m (or-right (c .derived) t) }
+    where
+      go : {o : Out} → Derives body x (g or h) s o → Derives body x h s o
+      go (or-first d) = apart (unique (c .derived) d)
+      go (or-else d d′) = d′
+
+  pub attempt-first : {g h : G} {n : ℕ} {s : S} {o : Out} → Attempt x h n s none → Attempt x (g or h) n s o → Attempt x g n s o
+  attempt-first {g} {h} {n} {s} {o} c e = record { derived = go (e .derived); within = λ i m t. e .within i m (or-left t) }
+    where
+      go : {o : Out} → Derives body x (g or h) s o → Derives body x g s o
+      go (or-first d) = d
+      go (or-else d d′) = rw (unique d′ (c .derived)) d
+
   pub attempt-no-more : {g : G} {n : ℕ} {s : S} → Attempt x g n s none → Attempt x (many g) n s (got s)
   attempt-no-more c =
       record { derived = no-more (c .derived); within = λ i m t. elim t [ now u ↦ c .within i m u | later d u ↦ apart (unique (c .derived) d) ] }
@@ -123,6 +138,24 @@ module _ {x : Input} where
 
   pub exceeds-or-right : {g h : G} {n : ℕ} {s : S} → Derives body x g s none → Exceeds x h n s → Exceeds x (g or h) n s
   exceeds-or-right d = exceeds-by (λ i m. or-right d)
+
+  pub exceeds-second : {g h : G} {n : ℕ} {s : S} → Attempt x g n s none → Exceeds x (g or h) n s → Exceeds x h n s
+  exceeds-second c e =
+      record {
+        token = e .token;
+        nest = e .nest;
+        above = e .above;
+        takes = elim (e .takes) [ or-left u ↦ absurd (omega (arith, e .above, c .within _ _ u)) | or-right d u ↦ u ];
+      }
+
+  pub exceeds-first : {g h : G} {n : ℕ} {s : S} → Attempt x h n s none → Exceeds x (g or h) n s → Exceeds x g n s
+  exceeds-first c e =
+      record {
+        token = e .token;
+        nest = e .nest;
+        above = e .above;
+        takes = elim (e .takes) [ or-left u ↦ u | or-right d u ↦ absurd (omega (arith, e .above, c .within _ _ u)) ];
+      }
 
   pub exceeds-now : {g : G} {n : ℕ} {s : S} → Exceeds x g n s → Exceeds x (many g) n s
   exceeds-now = exceeds-by (λ i m. now)

@@ -5,19 +5,20 @@ use mathlib.Core.List.{List}
 use Prim.Native.Nat.{ℕ, _+_, _≤_, min}
 use native.Mathlib.Omega.{arith}
 use native.Mathlib.Decide.{ℕ-discrete, decLt}
-use Rattle.tables.specs.TokenKinds.{ELSE}
-use Rattle.grammar.specs.Derive.{Input, token, stmt, Start, End, close, G, step, _&_, rule, S, none, yields, stepped, and-left, here}
-use Rattle.grammar.specs.Grammar.{body, tok, elsePart, statement}
+use Rattle.tables.specs.Tables.{tokenAt}
+use Rattle.tables.specs.TokenKinds.{ELSE, LET, CONST}
+use Rattle.grammar.specs.Derive.{Input, token, R, stmt, Start, End, close, G, step, _&_, rule, S, none, yields, stepped, and-left, here}
+use Rattle.grammar.specs.Grammar.{body, tok, elsePart, letStmt, constDef, statement}
 use Rattle.grammar.proofs.Unique.{unique, same}
 use Rattle.cursor.specs.Entries.{input}
-use Rattle.cursor.specs.Read.{LIMIT, Attempt, READING, FAILED, Represents, Result, matched, failed, exceeded, Reads, still, reads, begun, ending-with, inside, Tried, Ends, ends}
+use Rattle.cursor.specs.Read.{LIMIT, Attempt, READING, FAILED, Represents, Result, matched, failed, exceeded, Reads, still, reads, begun, ending-with, Inside, inside, Tried, Ends, ends}
 use Rattle.cursor.specs.Steps.{joining}
 use Rattle.cursor.specs.declared.Cursor.{Cursor}
 use Rattle.cursor.specs.declared.Part.{Part}
 use Rattle.cursor.specs.declared.StmtPart.{StmtPart}
 use Rattle.cursor.proofs.Attempts.{attempt-and-not, attempt-or-else, attempt-absent, attempt-step}
 use Rattle.cursor.proofs.Again.{again}
-use Rattle.cursor.proofs.Laws.{clash, some, idle, absent, by-part, _then_}
+use Rattle.cursor.proofs.Laws.{clash, some, idle, absent, by-part, without-first, without-second, _then_}
 use Rattle.cursor.proofs.Falls.{one-if, on, was}
 
 infixr 40 _then-ends_
@@ -125,3 +126,17 @@ module _ {text w : List ℕ} where
       → Tried text w (y .nest) (y .at)
   tried-outside l (ends e u f t) g i z =
       rw (g, f) (outer (omega (arith, l)) (t i (sym (ap (λ (p : Part). p .status) f) ∙ sym (ap (λ (p : Cursor). p .status) g) ∙ z)))
+
+  -- ---- a statement that stands elsewhere too
+  pub let-of : {k : ℕ} {p q : Cursor} {T U : List ℕ} → k ≡ tokenAt w (p .at) .kind → k ≡ LET → Reads statement text w p T q U → Reads letStmt text w p T q U
+  let-of e f y =
+      without-second e f tt (without-first e f tt (without-first e f tt (without-first e f tt (without-first e f tt (without-first e f tt (without-first e f tt (without-first e f tt y)))))))
+
+  pub const-of : {k : ℕ} {p q : Cursor} {T U : List ℕ} → k ≡ tokenAt w (p .at) .kind → k ≡ CONST → Reads statement text w p T q U → Reads constDef text w p T q U
+  const-of e f y =
+      without-second e f tt (without-first e f tt (without-first e f tt (without-first e f tt (without-first e f tt (without-first e f tt (without-first e f tt (without-first e f tt (without-first e f tt y))))))))
+
+  -- the inside of a rule, read as a statement
+  pub inside-as : {g : G} {r : R} {s : Cursor} {a : Part} {q : StmtPart} {i c n : ℕ} {T U : List ℕ} → s ≡ begun i c n → ((e : Cursor) → Reads g text w s T e U → Reads (body r) text w s T e U)
+      → Ends g text w (begun i c n) T q U → a ≡ q .part → Inside r text w i c n T a U
+  inside-as i l (ends e u f t) j = inside e (rw i at (l e (rw (← i) at u))) (j ∙ f)

@@ -16,7 +16,7 @@ use Rattle.grammar.proofs.Progress.{eats, sane?, grows}
 use Rattle.grammar.proofs.Whole.{solid, takes-one}
 use Rattle.cursor.specs.Entries.{input}
 use Rattle.cursor.specs.Read.{READING, Represents, Result, matched, failed, exceeded, Reads, still, reads, Puts, puts, Grown, grown, Step, steps, Free, free, begun}
-use Rattle.cursor.specs.Steps.{fresh-at, at-nest}
+use Rattle.cursor.specs.Steps.{fresh-at}
 use Rattle.cursor.specs.declared.Cursor.{Cursor}
 use Rattle.cursor.proofs.Laws.{clash, some}
 
@@ -76,8 +76,8 @@ module _ {w : List ℕ} where
   unfolding ahead-of
   same-place e f = ahead (λ z. (sym f ∙ z, rw e (omega arith)))
 
-  -- into a rule, at whatever nest
-  pub at-in : {n : ℕ} {p q : Cursor} → q ≡ at-nest n (fresh-at (p .at) p) → Ahead false w p q
+  -- into a rule
+  pub at-in : {p q : Cursor} → q ≡ fresh-at (p .at) p → Ahead false w p q
   at-in e = same-place (ap (λ (r : Cursor). r .at) e) (ap (λ (r : Cursor). r .status) e)
 
   -- at the first token of a rule, and before a rule

@@ -2,7 +2,7 @@
 use mathlib.Core.Path.{_≡_, refl, sym, ap, _∙_}
 use mathlib.Core.Bool.{not, _&&_}
 use mathlib.Core.List.{List}
-use Prim.Native.Nat.{ℕ, _+_, min}
+use Prim.Native.Nat.{ℕ, _+_}
 use native.Mathlib.Omega.{arith}
 use native.Mathlib.Decide.{ℕ-discrete}
 use lib.Dec.{T as Yes}
@@ -20,10 +20,10 @@ use Rattle.patterns.proofs.Tests.{and-l, and-r}
 use Rattle.cursor.specs.Entries.{input}
 use Rattle.cursor.specs.Read.{LIMIT, Attempt, Exceeds, Holds, READING, FAILED, Upto, Represents, Result, matched, failed, exceeded, Reads, still, reads, begun, ending, Inside, inside}
 use Rattle.cursor.specs.Read.{Puts, puts, Grown, grown, Step, steps, Free, free}
-use Rattle.cursor.specs.Steps.{entered, joining, Left, left-still, left}
+use Rattle.cursor.specs.Steps.{fresh-at, joining, Left, left-still, left}
 use Rattle.cursor.specs.declared.Cursor.{Cursor}
 use Rattle.cursor.specs.declared.Part.{Part}
-use Rattle.cursor.proofs.Attempts.{attempt-and-not, attempt-and-then, attempt-or-first, attempt-or-else, attempt-no-more, attempt-rule, attempt-step, exceeds-and-left, exceeds-and-right, exceeds-or-left, exceeds-or-right, exceeds-rule}
+use Rattle.cursor.proofs.Attempts.{attempt-and-not, attempt-and-then, attempt-or-first, attempt-or-else, attempt-first, attempt-second, attempt-no-more, attempt-rule, attempt-step, exceeds-and-left, exceeds-and-right, exceeds-or-left, exceeds-or-right, exceeds-first, exceeds-second, exceeds-rule}
 pub use Rattle.cursor.proofs.Cursors.{seen-as, represents-enter, represents-leave, some}
 use Rattle.cursor.proofs.Holding.{holds-fewer}
 
@@ -41,8 +41,8 @@ pub kept : {x : Input} {g : G} {s t : S} {U : List ℕ} → Derives body x g s (
 kept {s = s} d H = let a = on-of (added d) in holds-fewer (s .nodes) (a .more) (rw (a .adds) at H)
 
 -- going into a rule
-begun-in : (p : Cursor) (d : ℕ) → p .status ≡ READING → entered d p ≡ begun (p .at) (p .count) (min (p .nest + d) (LIMIT + 1))
-begun-in p d z = rw z refl
+begun-in : (p : Cursor) → p .status ≡ READING → fresh-at (p .at) p ≡ begun (p .at) (p .count) (p .nest)
+begun-in p z = rw z refl
 
 pub as-deep : {n m : ℕ} → m ≡ 0 → Upto (LIMIT + 1) n (n + m)
 as-deep e = record { upto = omega arith }
@@ -198,8 +198,8 @@ module _ {text w : List ℕ} where
       go v (exceeded z′ c) (left-still h i) = exceeded (i ∙ z′) (exceeds-rule m c)
       go v (exceeded z′ c) (left z″ i) = clash 2 0 z′ z″ (omega arith)
 
-  pub by-rule : (r : R) {p q q′ y : Cursor} {d : ℕ} {T U : List ℕ} → d ≡ nests r → p .status ≡ READING → q ≡ entered d p → Reads (body r) text w q T q′ U → Left p q′ y → Reads (rule r) text w p T y U
-  by-rule r {p} {d = d} e z i u l = ruled-by r (record { upto = rw (← e) (omega arith) }) z (rw (i, begun-in p d z) at u) l
+  pub by-rule : (r : R) {p q q′ y : Cursor} {T U : List ℕ} → nests r ≡ 0 → p .status ≡ READING → q ≡ fresh-at (p .at) p → Reads (body r) text w q T q′ U → Left p q′ y → Reads (rule r) text w p T y U
+  by-rule r {p} e z i u l = ruled-by r (as-deep e) z (rw (i, begun-in p z) at u) l
 
   -- a rule whose inside is a function of its own
   pub by-part : (r : R) {p y : Cursor} {q : Part} {n : ℕ} {T U : List ℕ} → Upto (LIMIT + 1) n (p .nest + nests r) → p .status ≡ READING → Inside r text w (p .at) (p .count) n T q U → y ≡ joining p q
@@ -220,6 +220,19 @@ module _ {text w : List ℕ} where
   -- the second alone, where the first cannot
   pub pass : {k : ℕ} {g h : G} {p q : Cursor} {T U : List ℕ} → k ≡ tokenAt w (p .at) .kind → Absent k (firsts g) → Yes (not (empties g) && sane? solid g) → Reads h text w p T q U → Reads (g or h) text w p T q U
   pass e a y u = turned (λ s v. let c = missed text w e a y v in becomes (λ o d. attempt-or-else c d) (exceeds-or-right (c .derived))) u
+
+  -- what is read of two alternatives is of one alone, where the other cannot begin so
+  pub without-second : {k j : ℕ} {g h : G} {p q : Cursor} {T U : List ℕ} → k ≡ tokenAt w (p .at) .kind → k ≡ j → Yes (absent? j (firsts h) && (not (empties h) && sane? solid h)) → Reads (g or h) text w p T q U → Reads g text w p T q U
+  without-second {j = j} {h = h} e f y =
+      turned (λ s v.
+      let c = missed text w (sym f ∙ e) (absent-of j (firsts h) (and-l (absent? j (firsts h)) _ y)) (and-r (absent? j (firsts h)) _ y) v in
+      becomes (λ o d. attempt-first c d) (exceeds-first c))
+
+  pub without-first : {k j : ℕ} {g h : G} {p q : Cursor} {T U : List ℕ} → k ≡ tokenAt w (p .at) .kind → k ≡ j → Yes (absent? j (firsts g) && (not (empties g) && sane? solid g)) → Reads (g or h) text w p T q U → Reads h text w p T q U
+  without-first {j = j} {g = g} e f y =
+      turned (λ s v.
+      let c = missed text w (sym f ∙ e) (absent-of j (firsts g) (and-l (absent? j (firsts g)) _ y)) (and-r (absent? j (firsts g)) _ y) v in
+      becomes (λ o d. attempt-second c d) (exceeds-second c))
 
   -- no round, where it cannot begin so
   pub many-miss : {k : ℕ} {g : G} {p : Cursor} {T : List ℕ} → k ≡ tokenAt w (p .at) .kind → Absent k (firsts g) → Yes (not (empties g) && sane? solid g) → Reads (many g) text w p T p T

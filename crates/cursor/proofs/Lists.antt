@@ -1,19 +1,42 @@
 -- A list that a function reads with a loop of its own. Assumes nothing.
-use mathlib.Core.Path.{_≡_}
+use mathlib.Core.Path.{_≡_, refl, sym, _∙_}
+use mathlib.Core.Bool.{false}
 use mathlib.Core.List.{List}
 use Prim.Native.Nat.{ℕ}
 use native.Mathlib.Omega.{arith}
 use lib.Dec.{T as Yes}
+use lib.ListN.{length}
+use borrow.Author.Tests.{eq-eqb}
 use Rattle.tables.specs.Tables.{tokenAt}
 use Rattle.tables.specs.TokenKinds.{COMMA}
-use Rattle.grammar.specs.Derive.{G, many}
-use Rattle.grammar.specs.Grammar.{tok, opt, another, entries, list}
+use Rattle.tables.proofs.Laws.{tokens-at}
+use Rattle.grammar.specs.Derive.{Input, token, skip, take, G, many, S, none, yields, Derives, stepped}
+use Rattle.grammar.specs.Grammar.{body, tok, opt, another, entries, list}
+use Rattle.grammar.proofs.Unique.{unique, apart}
 use Rattle.grammar.proofs.Progress.{sane?}
 use Rattle.grammar.proofs.Whole.{solid}
-use Rattle.cursor.specs.Read.{READING, FAILED, Reads, Step}
+use Rattle.cursor.specs.Entries.{input}
+use Rattle.cursor.specs.Read.{READING, FAILED, Represents, Result, matched, failed, exceeded, Reads, still, reads, Step, steps}
 use Rattle.cursor.specs.declared.Cursor.{Cursor}
-use Rattle.cursor.proofs.Laws.{clash, idle, nothing, _then_, first, absent, pass, many-miss, fine, opt-never, never-failed, one-step}
-use Rattle.cursor.proofs.Loops.{Looping, rounds-end, rounds-miss, rounds-off}
+use Rattle.cursor.proofs.Laws.{clash, status-as, some, idle, nothing, _then_, first, absent, pass, many-miss, fine, opt-never, never-failed, one-step}
+use Rattle.cursor.proofs.Falls.{Ahead, on, on-step, _and-on_, at-here, was, weaken}
+use Rattle.cursor.proofs.Loops.{Looping, rounds-begin, rounds-next, rounds-end, rounds-miss, rounds-off}
+
+-- a loop that reads one of a list and then a comma: nothing so far, or some and a comma
+pub data SoFar (text w : List ℕ) (g : G) (p₀ : Cursor) (T₀ : List ℕ) (p : Cursor) (T : List ℕ) : Type 0 where
+  none-yet : p ≡ p₀ → T ≡ T₀ → SoFar text w g p₀ T₀ p T
+  past-comma : {q r : Cursor} {U : List ℕ} → Reads g text w p₀ T₀ q U → (q .status ≡ FAILED → ⊥) → Looping text w (another g) q U r T → Step (tok COMMA) w r p → (p .status ≡ FAILED → ⊥) → SoFar text w g p₀ T₀ p T
+
+-- how far on that is; the table's length
+pub record Listing (text w : List ℕ) (g : G) (p₀ : Cursor) (T₀ : List ℕ) (p : Cursor) (T : List ℕ) : Type 0 where
+  pub so-far : SoFar text w g p₀ T₀ p T
+  pub on : Ahead false w p₀ p
+  pub kept : length T ≡ length T₀
+
+-- a token that is there is taken
+there : {x : Input} {k : ℕ} {s : S} → token x (s .at) .kind ≡ k → Derives body x (tok k) s none → ⊥
+unfolding yields
+there {x} {k} {s} e d = apart (unique d (let c : Derives body x (tok k) s (yields x (take k skip) s) = stepped in rw (eq-eqb _ _ e) at c))
 
 module _ {text w : List ℕ} where
   -- ---- a trailing comma is allowed
@@ -44,6 +67,54 @@ module _ {text w : List ℕ} where
   pub listed-off : {g : G} {p q r : Cursor} {T U W : List ℕ} → Reads g text w p T q U → (q .status ≡ FAILED → ⊥) → Looping text w (another g) q U r W → (r .status ≡ READING → ⊥)
       → Reads (list g) text w p T r W
   listed-off y n L h = let l = rounds-off L h in first (y then l then idle h) (fine l n)
+
+  -- ---- by a loop
+  comma-taken : {k : ℕ} {p q : Cursor} {T : List ℕ} → k ≡ tokenAt w (p .at) .kind → k ≡ COMMA → (p .status ≡ FAILED → ⊥) → Reads (tok COMMA) text w p T q T → q .status ≡ FAILED → ⊥
+  comma-taken e f n (still m i j) o = n (status-as (sym i) o)
+  comma-taken {p = p} {q} {T} e f n (reads z l) o = let (s, v) = some p in go s v (l s v)
+    where
+      go : (s : S) → Represents p s → Result (tok COMMA) text w p s T q T → ⊥
+      go s v (matched t z′ n v′ c h) = clash 0 1 z′ o (omega arith)
+      go s v (failed z′ c h) = there {x = input text w} (rw (← v .at, tokens-at) (sym e ∙ f)) (c .derived)
+      go s v (exceeded z′ c) = clash 2 1 z′ o (omega arith)
+
+  pub listing-begin : {g : G} {p : Cursor} {T : List ℕ} → Listing text w g p T p T
+  listing-begin = record { so-far = none-yet refl refl; on = at-here; kept = refl }
+
+  -- one more and a comma
+  pub listing-next : {k : ℕ} {g : G} {p₀ p q r : Cursor} {T₀ T U : List ℕ} → Listing text w g p₀ T₀ p T → Reads g text w p T q U → (q .status ≡ FAILED → ⊥) → length U ≡ length T
+      → k ≡ tokenAt w (q .at) .kind → k ≡ COMMA → Step (tok COMMA) w q r → Listing text w g p₀ T₀ r U
+  listing-next {g = g} {p₀} {p} {q} {r} {T₀} {T} {U} L y n h e f c =
+      record { so-far = go (L .so-far) y; on = weaken (L .on and-on on y and-on on-step c); kept = h ∙ L .kept }
+    where
+      go : SoFar text w g p₀ T₀ p T → Reads g text w p T q U → SoFar text w g p₀ T₀ r U
+      go (none-yet i j) y = past-comma (rw (i, j) at y) n rounds-begin c (comma-taken {T = U} e f n (one-step c))
+      go (past-comma y₀ n₀ L₀ c₀ m) y = past-comma y₀ n₀ (rounds-next L₀ (one-step c₀ then y) n (h ∙ L₀ .kept)) c (comma-taken {T = U} e f n (one-step c))
+
+  -- the next fails
+  pub listing-none : {g : G} {p₀ p q : Cursor} {T₀ T U : List ℕ} → Listing text w g p₀ T₀ p T → p .status ≡ READING → Reads g text w p T q U → q .status ≡ FAILED → Reads (list g) text w p₀ T₀ p U
+  listing-none {g} {p₀} {p} {q} {T₀} {T} {U} L z y o = go (L .so-far) y
+    where
+      go : SoFar text w g p₀ T₀ p T → Reads g text w p T q U → Reads (list g) text w p₀ T₀ p U
+      go (none-yet i j) y = rw i (listed-none (rw (i, j) at y) o)
+      go (past-comma y₀ n₀ L₀ c₀ m) y = listed-end y₀ n₀ L₀ (was (on-step c₀) z) (one-step c₀ then y) o (steps (λ text T. first (one-step c₀) m))
+
+  -- no comma follows
+  pub listing-miss : {k : ℕ} {g : G} {p₀ p q : Cursor} {T₀ T U : List ℕ} → Yes (sane? solid g) → Listing text w g p₀ T₀ p T → Reads g text w p T q U → (q .status ≡ FAILED → ⊥) → length U ≡ length T
+      → k ≡ tokenAt w (q .at) .kind → (k ≡ COMMA → ⊥) → Reads (list g) text w p₀ T₀ q U
+  listing-miss {g = g} {p₀} {p} {q} {T₀} {T} {U} a L y n h e f = go (L .so-far) y
+    where
+      go : SoFar text w g p₀ T₀ p T → Reads g text w p T q U → Reads (list g) text w p₀ T₀ q U
+      go (none-yet i j) y = listed-one a (rw (i, j) at y) n e f
+      go (past-comma y₀ n₀ L₀ c₀ m) y = listed-miss a y₀ n₀ (rounds-next L₀ (one-step c₀ then y) n (h ∙ L₀ .kept)) e f
+
+  -- it is not reading
+  pub listing-off : {g : G} {p₀ p : Cursor} {T₀ T : List ℕ} → Listing text w g p₀ T₀ p T → (p .status ≡ READING → ⊥) → Reads (list g) text w p₀ T₀ p T
+  listing-off {g} {p₀} {p} {T₀} {T} L h = go (L .so-far)
+    where
+      go : SoFar text w g p₀ T₀ p T → Reads (list g) text w p₀ T₀ p T
+      go (none-yet i j) = still (λ z. h (status-as i z)) i j
+      go (past-comma y₀ n₀ L₀ c₀ m) = listed-off y₀ n₀ (rounds-next L₀ (one-step c₀ then idle h) m (L₀ .kept)) h
 
   -- ---- it is not
   pub entries-none : {g : G} {p q : Cursor} {T U : List ℕ} → Reads g text w p T q U → q .status ≡ FAILED → Reads (entries g) text w p T p U

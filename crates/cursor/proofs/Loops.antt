@@ -1,6 +1,6 @@
 -- The invariant of a loop that reads `many g`, and its laws. Assumes nothing.
-use mathlib.Core.Path.{_≡_, refl, sym, _∙_}
-use mathlib.Core.Bool.{false, not, _&&_}
+use mathlib.Core.Path.{_≡_, refl, sym, ap, _∙_}
+use mathlib.Core.Bool.{Bool, true, false, not, _&&_}
 use mathlib.Core.List.{List}
 use Prim.Native.Nat.{ℕ}
 use native.Mathlib.Omega.{arith}
@@ -11,12 +11,12 @@ use Rattle.tables.specs.Tables.{tokenAt}
 use Rattle.grammar.proofs.Progress.{sane?}
 use Rattle.grammar.proofs.Whole.{solid}
 use Rattle.grammar.proofs.First.{empties, firsts, Absent, absent?, absent-of}
-use Rattle.grammar.specs.Derive.{G, many, S}
+use Rattle.grammar.specs.Derive.{G, _&_, many, S}
 use Rattle.cursor.specs.Read.{READING, FAILED, Represents, Result, matched, failed, exceeded, Reads, still, reads}
 use Rattle.cursor.specs.declared.Cursor.{Cursor}
 use Rattle.cursor.proofs.Attempts.{attempt-no-more, attempt-one-more, exceeds-now, exceeds-later}
-use Rattle.cursor.proofs.Laws.{clash, idle, joined, many-miss}
-use Rattle.cursor.proofs.Falls.{Ahead, on, _and-on_, at-here, weaken}
+use Rattle.cursor.proofs.Laws.{clash, status-as, idle, joined, many-miss, _then_}
+use Rattle.cursor.proofs.Falls.{Ahead, one-if, on, _and-on_, at-here, weaken}
 
 -- so many rounds after p₀ and T₀: what `many g` reads from there on it reads from p₀; how far on that is; the table's length
 pub record Looping (text w : List ℕ) (g : G) (p₀ : Cursor) (T₀ : List ℕ) (p : Cursor) (T : List ℕ) : Type 0 where
@@ -71,3 +71,49 @@ module _ {text w : List ℕ} where
   -- and so is a cursor that is not reading
   pub rounds-off : {g : G} {p₀ p : Cursor} {T₀ T : List ℕ} → Looping text w g p₀ T₀ p T → (p .status ≡ READING → ⊥) → Reads (many g) text w p₀ T₀ p T
   rounds-off {p = p} {T = T} L n = L .rounds p T (idle n)
+
+-- ---- rounds of h after a g, which the loop's first round reads
+pub data Led (text w : List ℕ) (g h : G) (p₀ : Cursor) (T₀ : List ℕ) (first : Bool) (p : Cursor) (T : List ℕ) : Type 0 where
+  not-yet : first ≡ true → p ≡ p₀ → T ≡ T₀ → Led text w g h p₀ T₀ first p T
+  led : {q : Cursor} {U : List ℕ} → first ≡ false → Reads g text w p₀ T₀ q U → Looping text w h q U p T → Led text w g h p₀ T₀ first p T
+
+pub record Leading (text w : List ℕ) (g h : G) (p₀ : Cursor) (T₀ : List ℕ) (first : Bool) (p : Cursor) (T : List ℕ) : Type 0 where
+  pub so-far : Led text w g h p₀ T₀ first p T
+  pub on : Ahead false w p₀ p
+  pub kept : length T ≡ length T₀
+
+true-false : true ≡ false → ⊥
+true-false e = omega (arith, ap one-if e)
+
+module _ {text w : List ℕ} {g h : G} where
+  pub leading-begin : {p : Cursor} {T : List ℕ} → Leading text w g h p T true p T
+  leading-begin = record { so-far = not-yet refl refl refl; on = at-here; kept = refl }
+
+  pub leading-first : {p₀ p q : Cursor} {T₀ T U : List ℕ} {b : Bool} → Leading text w g h p₀ T₀ b p T → b ≡ true → Reads g text w p T q U → length U ≡ length T → Leading text w g h p₀ T₀ false q U
+  leading-first {p₀} {p} {q} {T₀} {T} {U} {b} L t y k = record { so-far = go (L .so-far) y; on = weaken (L .on and-on on y); kept = k ∙ L .kept }
+    where
+      go : Led text w g h p₀ T₀ b p T → Reads g text w p T q U → Led text w g h p₀ T₀ false q U
+      go (not-yet _ i j) y = led refl (rw (i, j) at y) rounds-begin
+      go (led f y₀ L₀) y = absurd (true-false (sym t ∙ f))
+
+  pub leading-next : {p₀ p q : Cursor} {T₀ T U : List ℕ} {b : Bool} → Leading text w g h p₀ T₀ b p T → b ≡ false → Reads h text w p T q U → (q .status ≡ FAILED → ⊥) → length U ≡ length T
+      → Leading text w g h p₀ T₀ b q U
+  leading-next {p₀} {p} {q} {T₀} {T} {U} {b} L t y n k = record { so-far = go (L .so-far); on = weaken (L .on and-on on y); kept = k ∙ L .kept }
+    where
+      go : Led text w g h p₀ T₀ b p T → Led text w g h p₀ T₀ b q U
+      go (not-yet f i j) = absurd (true-false (sym f ∙ t))
+      go (led f y₀ L₀) = led f y₀ (rounds-next L₀ y n (k ∙ L₀ .kept))
+
+  pub leading-end : {p₀ p q : Cursor} {T₀ T U : List ℕ} {b : Bool} → Leading text w g h p₀ T₀ b p T → b ≡ false → p .status ≡ READING → Reads h text w p T q U → q .status ≡ FAILED → Reads (g & many h) text w p₀ T₀ p U
+  leading-end {p₀} {p} {q} {T₀} {T} {U} {b} L t z y o = go (L .so-far)
+    where
+      go : Led text w g h p₀ T₀ b p T → Reads (g & many h) text w p₀ T₀ p U
+      go (not-yet f i j) = absurd (true-false (sym f ∙ t))
+      go (led f y₀ L₀) = y₀ then rounds-end L₀ z y o
+
+  pub leading-off : {p₀ p : Cursor} {T₀ T : List ℕ} {b : Bool} → Leading text w g h p₀ T₀ b p T → (p .status ≡ READING → ⊥) → Reads (g & many h) text w p₀ T₀ p T
+  leading-off {p₀} {p} {T₀} {T} {b} L n = go (L .so-far)
+    where
+      go : Led text w g h p₀ T₀ b p T → Reads (g & many h) text w p₀ T₀ p T
+      go (not-yet f i j) = still (λ z. n (status-as i z)) i j
+      go (led f y₀ L₀) = y₀ then rounds-off L₀ n

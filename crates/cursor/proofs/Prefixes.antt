@@ -12,7 +12,7 @@ use Rattle.grammar.specs.Kinds.{Unary}
 use Rattle.grammar.specs.Derive.{unary, close, firstToken, lastPart, step, _&_, many, rule}
 use Rattle.grammar.specs.Grammar.{body, atom, postfix, op}
 use Rattle.cursor.specs.Read.{LIMIT, READING, DEEP, Reads, Puts, puts}
-use Rattle.cursor.specs.Steps.{Halted, was-halted, halts, entered, Left, fresh-at, signed-at, Restarted, restarts, restarts-deep, Prefix, no-prefix, a-not, a-minus, Prefixes, Unwound, too-deep, advanced}
+use Rattle.cursor.specs.Steps.{Halted, was-halted, halts, Left, fresh-at, signed-at, Restarted, restarts, restarts-deep, Prefix, no-prefix, a-not, a-minus, Prefixes, Unwound, too-deep, advanced}
 use Rattle.cursor.specs.declared.Cursor.{Cursor}
 use Rattle.cursor.proofs.Laws.{clash, only, pass, _then_, by-rule, idle}
 use Rattle.cursor.proofs.Falls.{Ahead, ahead, ahead-of}
@@ -61,12 +61,6 @@ pub counting-end : {w : List ℕ} {at e s : ℕ} → Counting w at e s → s ≡
 counting-end c z = record { up = c .up; each = c .each; over = rw z at (c .here) }
 
 -- ---- making nodes of them again, the last first
--- past a prefix the operand's rule is entered
-into : (i e m : ℕ) (p : Cursor) → p .nest ≤ LIMIT → fresh-at e p ≡ entered 0 (signed-at i e m p)
-into i e m p h =
-    let n : p .nest ≡ min (p .nest + 0) (LIMIT + 1) = omega arith in
-    ap (λ (k : ℕ). record { at = e; count = p .count; nest = k; status = p .status; first = e; parts = 0; mark = 0; from = 0; to = 0 }) n
-
 -- the prefix before e is taken
 takes : {text w T : List ℕ} {j : ℕ} (p : Cursor) (e v : ℕ) → p .status ≡ READING → p .nest ≤ LIMIT → 1 ≤ e → tokenAt w (e - 1) .kind ≡ j → 1 ≤ j
     → Reads (op j v) text w (fresh-at (e - 1) p) T (signed-at (e - 1) e v p) T
@@ -82,10 +76,10 @@ module _ {text w : List ℕ} (p : Cursor) {q q′ r : Cursor} {T U W : List ℕ}
   one-more z h l i (no-prefix f a c) g y l₁ d = absurd (g f)
   one-more z h l i (a-not f a) g y l₁ d =
       let n : m - 1 ≡ 0 = omega arith in
-      only i a tt (only i a tt (takes p e 0 z h l (sym i ∙ a) (omega arith)) then by-rule unary refl z (into (e - 1) e 0 p h) y (rw n at l₁) then d)
+      only i a tt (only i a tt (takes p e 0 z h l (sym i ∙ a) (omega arith)) then by-rule unary refl z refl y (rw n at l₁) then d)
   one-more z h l i (a-minus f a) g y l₁ d =
       let n : m - 1 ≡ 1 = omega arith in
-      only i a tt (pass i (omega arith) tt (takes p e 1 z h l (sym i ∙ a) (omega arith)) then by-rule unary refl z (into (e - 1) e 1 p h) y (rw n at l₁) then d)
+      only i a tt (pass i (omega arith) tt (takes p e 1 z h l (sym i ∙ a) (omega arith)) then by-rule unary refl z refl y (rw n at l₁) then d)
 
 -- the invariant of the loop that goes back over them
 pub record Unwinding (w : List ℕ) (p : Cursor) (e₀ : ℕ) (q : Cursor) (T : List ℕ) (e : ℕ) (r : Cursor) (U : List ℕ) : Type 0 where

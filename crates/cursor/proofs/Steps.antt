@@ -9,12 +9,14 @@ use lib.Dec.{eqb}
 use lib.ListN.{length}
 use borrow.Author.Tests.{eq-eqb, ne-eqb}
 use Rattle.tables.specs.Tables.{Token, encodeNode, tokenAt, stored}
+use Rattle.tables.specs.TokenKinds.{IDENT}
 use Rattle.tables.proofs.Laws.{number-none, tokens-at}
-use Rattle.grammar.specs.Derive.{Input, token, Act, leaf, Start, firstToken, firstPart, End, lastToken, lastPart, callEnd, take, close, tick, alone, step, S, Out, got, none, next, marked, emit, starts, ends, closed, act, yields, stepped, here}
-use Rattle.grammar.specs.Grammar.{tok, op}
+use Rattle.grammar.specs.Derive.{Input, token, Act, leaf, Start, firstToken, firstPart, End, lastToken, lastPart, callEnd, take, close, tick, alone, step, S, Out, got, none, next, marked, emit, starts, ends, closed, act, yields, stepped, here, typeName, spelling}
+use Rattle.grammar.specs.Kinds.{Named}
+use Rattle.grammar.specs.Grammar.{tok, op, namedType}
 use Rattle.grammar.proofs.Unique.{unique}
 use Rattle.cursor.specs.Entries.{input, MAX16, MAX64}
-use Rattle.cursor.specs.Read.{Attempt, Exceeds, Holds, READING, FAILED, Upto, Represents, Result, matched, failed, exceeded, Reads, still, reads}
+use Rattle.cursor.specs.Read.{Attempt, Exceeds, Holds, READING, FAILED, Upto, Represents, Result, matched, failed, exceeded, Reads, still, reads, Puts, puts}
 use Rattle.cursor.specs.Steps.{Wanted, up, Halted, was-halted, halts, Advanced, not-reading, not-there, too-deep, advanced, with-mark, with-part, counted, Closed, not-closed, closes}
 use Rattle.cursor.specs.declared.Cursor.{Cursor}
 use Rattle.cursor.proofs.Attempts.{attempt-as, attempt-take, attempt-absent, attempt-step, exceeds-by, exceeds-take}
@@ -163,6 +165,10 @@ module _ {text w : List ℕ} {k : ℕ} {a b : Act} {p : Cursor} where
       go s v (failed z c f) (halts y e) = clash 1 0 z y (omega arith)
       go s v (exceeded z c) (was-halted m e) = exceeded (status-as e z) (exceeds-too c)
       go s v (exceeded z c) (halts y e) = clash 2 0 z y (omega arith)
+
+-- a name whose value is told by its spelling
+pub named : {text w : List ℕ} {v : ℕ} {p r : Cursor} {T U : List ℕ} → v ≡ typeName (spelling (input text w) (tokenAt w (p .at))) → Puts (step (take IDENT (leaf Named v))) w p T r U → Reads namedType text w p T r U
+named {text} e (puts y) = same-act (λ s. s .unknown) (λ s. rw e) (y text)
 
 -- ---- no token
 

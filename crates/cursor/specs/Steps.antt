@@ -71,11 +71,6 @@ abbrev pub fresh-at : ℕ → Cursor → Cursor
 fresh-at i p =
     record { at = i; count = p .count; nest = p .nest; status = p .status; first = i; parts = 0; mark = 0; from = 0; to = 0 }
 
--- into a rule that adds d to the nest; nests past the limit are not told apart
-abbrev pub entered : ℕ → Cursor → Cursor
-entered d p =
-    record { at = p .at; count = p .count; nest = min (p .nest + d) (LIMIT + 1); status = p .status; first = p .at; parts = 0; mark = 0; from = 0; to = 0 }
-
 -- p with what a rule has read as one part more
 abbrev pub joining : Cursor → Part → Cursor
 joining p q =

@@ -5,12 +5,12 @@ ghost use lib.Dec.{eqb};
 ghost use lib.ListN.{take as first-of, drop};
 ghost use Prim.Native.Nat.{_+_, _-_, pred, min};
 ghost use Rattle.tables.specs.Tables.{tokenAt};
-ghost use Rattle.grammar.specs.Derive.{step, take, leaf, index, literal, count, close, tick, alone, literalKind, typeName, firstToken, firstPart, lastToken, lastPart, callEnd};
+ghost use Rattle.grammar.specs.Derive.{step, take, leaf, index, literal, count, close, tick, alone, literalKind, typeName, spelling, firstToken, firstPart, lastToken, lastPart, callEnd};
 ghost use Rattle.grammar.specs.Kinds.{Call};
-ghost use Rattle.grammar.specs.Grammar.{tok, op, opt, name, namedType, numeral, whole, operands, spanless};
-ghost use Rattle.cursor.specs.Entries.{MAX16, MAX64};
-ghost use Rattle.cursor.specs.Read.{Reads, Puts, Grown, Step, Free, begun, ending, ending-with};
-ghost use Rattle.cursor.specs.Steps.{Wanted, Halted, Advanced, Closed, Agreed, Restarted, Left, with-part, fresh-at, signed-at, entered, shallow, joining, up};
+ghost use Rattle.grammar.specs.Grammar.{tok, op, opt, name, numeral, whole, operands, spanless};
+ghost use Rattle.cursor.specs.Entries.{input, MAX16, MAX64};
+ghost use Rattle.cursor.specs.Read.{Puts, Grown, Step, Free, begun, ending, ending-with};
+ghost use Rattle.cursor.specs.Steps.{Wanted, Halted, Advanced, Closed, Agreed, Restarted, Left, with-part, fresh-at, signed-at, shallow, joining, up};
 use grammar::node_kind;
 use patterns::is_word;
 use tables::node::put_node;
@@ -176,18 +176,6 @@ impl Cursor {
         ensures { λ r. ⌜ Puts name (now (tokens .entry)) self (now (nodes .entry)) r (now (nodes .exit)) ⌝ }
     {
         self.leaf(tokens, nodes, IDENTIFIER, node_kind::NAME, 0)
-    }
-
-    // Takes a name, and emits a Named by its spelling.
-    pub fn named(self, text: &[u8], tokens: &[u8], nodes: &mut [u8]) -> Cursor
-        ensures { λ r. ⌜ Reads namedType (now (text .entry)) (now (tokens .entry)) self (now (nodes .entry)) r (now (nodes .exit)) ⌝ }
-    {
-        let name = named_type(
-            text,
-            token::start(tokens, self.at),
-            token::end(tokens, self.at),
-        );
-        self.leaf(tokens, nodes, IDENTIFIER, node_kind::NAMED, name)
     }
 
     // Takes a numeral, and emits a literal by its suffix.
@@ -372,13 +360,11 @@ impl Cursor {
         self
     }
 
-    // Into a rule that adds so much to the nest.
-    pub fn enter(self, nests: u8) -> Cursor
-        ensures { λ r. ⌜ r ≡ entered nests self ⌝ }
+    // Into a rule that adds nothing to the nest.
+    pub fn enter(self) -> Cursor
+        ensures { λ r. ⌜ r ≡ fresh-at (self .at) self ⌝ }
     {
-        let mut p = self.fresh(self.at);
-        p.nest = inner(p.nest, nests);
-        p
+        self.fresh(self.at)
     }
 
     // Out of it again: what was gathered is one part more of what is outside.
@@ -474,18 +460,11 @@ fn choose(n: u16, a: u16, b: u16) -> u16
     if n == 0 { a } else { b }
 }
 
-// So much deeper; past the limit nests are not told apart.
-pub fn inner(nest: u8, nests: u8) -> u8
-    ensures { λ r. ⌜ r ≡ min (nest + nests) 65 ⌝ }
+// One deeper; past the limit nests are not told apart.
+pub fn deeper(nest: u8) -> u8
+    ensures { λ r. ⌜ r ≡ min (nest + 1) 65 ⌝ }
 {
-    if nest > LIMIT {
-        return LIMIT + 1;
-    }
-    if nests > LIMIT - nest {
-        LIMIT + 1
-    } else {
-        nest + nests
-    }
+    if nest < LIMIT { nest + 1 } else { LIMIT + 1 }
 }
 
 // A literal's kind, by its suffix.
@@ -509,7 +488,14 @@ fn lesser(a: usize, b: usize) -> usize
     if a < b { a } else { b }
 }
 
-// A Named's value, by the spelling from `start` to `end`.
+// A Named's value, by the spelling of a token.
+pub fn type_name(text: &[u8], tokens: &[u8], at: usize) -> u64
+    ensures { λ r. ⌜ r ≡ typeName (spelling (input (now (text .entry)) (now (tokens .entry))) (tokenAt (now (tokens .entry)) at)) ⌝ }
+{
+    named_type(text, token::start(tokens, at), token::end(tokens, at))
+}
+
+// The same by where it starts and ends.
 fn named_type(text: &[u8], start: u16, end: u16) -> u64
     ensures { λ r. ⌜ r ≡ typeName (first-of (end - start) (drop start (now (text .entry)))) ⌝ }
 {

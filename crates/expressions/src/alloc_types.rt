@@ -6,7 +6,8 @@ use cursor::Cursor;
 use cursor::FAILED;
 use cursor::Part;
 use cursor::READING;
-use cursor::inner;
+use cursor::deeper;
+use cursor::type_name;
 use grammar::node_kind;
 use tables::token_type::COMMA;
 use tables::token_type::IDENTIFIER;
@@ -26,7 +27,7 @@ pub fn alloc_type_expr(text: &[u8], tokens: &[u8], nodes: &mut [u8], cursor: Cur
         nodes,
         cursor.at,
         cursor.count,
-        inner(cursor.nest, 1),
+        deeper(cursor.nest),
     );
     cursor.join(q)
 }
@@ -49,7 +50,8 @@ fn alloc_base(text: &[u8], tokens: &[u8], nodes: &mut [u8], cursor: Cursor) -> C
     }
     let k = cursor.peek(tokens);
     if k == IDENTIFIER {
-        return cursor.named(text, tokens, nodes);
+        let name = type_name(text, tokens, cursor.at);
+        return cursor.leaf(tokens, nodes, IDENTIFIER, node_kind::NAMED, name);
     }
     let p = cursor.take(tokens, L_PAREN);
     let p = alloc_entries(text, tokens, nodes, p);

@@ -10,7 +10,8 @@ use cursor::Cursor;
 use cursor::FAILED;
 use cursor::Part;
 use cursor::READING;
-use cursor::inner;
+use cursor::deeper;
+use cursor::type_name;
 use grammar::node_kind;
 use tables::token;
 use tables::token_type;
@@ -45,7 +46,7 @@ pub fn expr(text: &[u8], tokens: &[u8], nodes: &mut [u8], cursor: Cursor) -> Cur
         nodes,
         cursor.at,
         cursor.count,
-        inner(cursor.nest, 1),
+        deeper(cursor.nest),
         5,
     );
     cursor.join(q)
@@ -176,7 +177,8 @@ fn casts(text: &[u8], tokens: &[u8], nodes: &mut [u8], cursor: Cursor) -> Cursor
             return p;
         }
         let q = p.take(tokens, AS);
-        let q = q.named(text, tokens, nodes);
+        let name = type_name(text, tokens, q.at);
+        let q = q.leaf(tokens, nodes, IDENTIFIER, node_kind::NAMED, name);
         let q = q.operands(nodes, node_kind::CAST);
         if q.status == FAILED {
             return p;
@@ -289,19 +291,26 @@ pub(crate) fn unary_at(
     p.ended()
 }
 
+// The atom, then postfixes. The first round of the loop reads the atom: what stands in a loop is compiled for speed.
 fn postfixed(text: &[u8], tokens: &[u8], nodes: &mut [u8], cursor: Cursor) -> Cursor
     ensures { λ r. ⌜ Reads (atom & many postfix) (now (text .entry)) (now (tokens .entry)) cursor (now (nodes .entry)) r (now (nodes .exit)) ⌝ }
 {
     if cursor.status != READING {
         return cursor;
     }
-    let mut p = atom(text, tokens, nodes, cursor);
+    let mut p = cursor;
+    let mut first = true;
     while p.status == READING {
-        let q = postfix_op(text, tokens, nodes, p);
-        if q.status == FAILED {
-            return p;
+        if first {
+            p = atom(text, tokens, nodes, p);
+            first = false;
+        } else {
+            let q = postfix_op(text, tokens, nodes, p);
+            if q.status == FAILED {
+                return p;
+            }
+            p = q;
         }
-        p = q;
     }
     p
 }
@@ -348,16 +357,19 @@ fn arguments(text: &[u8], tokens: &[u8], nodes: &mut [u8], cursor: Cursor) -> Cu
     if k == R_PAREN {
         return cursor;
     }
-    let p = expr(text, tokens, nodes, cursor);
-    if p.status == FAILED {
-        return cursor;
+    let mut p = cursor;
+    while p.status == READING {
+        let q = expr(text, tokens, nodes, p);
+        if q.status == FAILED {
+            return p;
+        }
+        let k = q.peek(tokens);
+        if k != COMMA {
+            return q;
+        }
+        p = q.take(tokens, COMMA);
     }
-    let k = p.peek(tokens);
-    if k != COMMA {
-        return p;
-    }
-    let p = exprs(text, tokens, nodes, p);
-    p.skip(tokens, COMMA)
+    p
 }
 
 fn exprs(text: &[u8], tokens: &[u8], nodes: &mut [u8], cursor: Cursor) -> Cursor
@@ -447,22 +459,17 @@ fn struct_literal_fields(text: &[u8], tokens: &[u8], nodes: &mut [u8], cursor: C
     if cursor.status != READING {
         return cursor;
     }
-    let p = field(text, tokens, nodes, cursor);
-    if p.status == FAILED {
-        return cursor;
-    }
-    let mut p = p;
+    let mut p = cursor;
     while p.status == READING {
-        let k = p.peek(tokens);
-        if k != COMMA {
+        let q = field(text, tokens, nodes, p);
+        if q.status == FAILED {
             return p;
         }
-        let q = p.take(tokens, COMMA);
-        let q = field(text, tokens, nodes, q);
-        if q.status == FAILED {
-            return p.skip(tokens, COMMA);
+        let k = q.peek(tokens);
+        if k != COMMA {
+            return q;
         }
-        p = q;
+        p = q.take(tokens, COMMA);
     }
     p
 }

@@ -1,12 +1,13 @@
 // Items: functions, structs, constants and uses.
 ghost use Rattle.grammar.specs.Derive.{rule, type, param, unit, item, many};
 ghost use Rattle.grammar.specs.Grammar.{name, list, field, fields, parameter, resultType, function, structDef, segment, useSingle, useList, useDef, file};
-ghost use Rattle.cursor.specs.Read.{Reads, Puts, Grown};
+ghost use Rattle.cursor.specs.Read.{Reads, Puts, Grown, Inside};
 use cursor::Cursor;
 use cursor::FAILED;
+use cursor::Part;
 use cursor::READING;
 use grammar::node_kind;
-use statements::const_def;
+use statements::stmt_at;
 use statements::stmts;
 use statements::types::type_expr;
 use tables::token_type::ARROW;
@@ -43,22 +44,30 @@ fn item(text: &[u8], tokens: &[u8], nodes: &mut [u8], cursor: Cursor) -> Cursor
     if cursor.status != READING {
         return cursor;
     }
-    let p = cursor.enter(0);
-    let k = p.peek(tokens);
+    let q = item_at(text, tokens, nodes, cursor.at, cursor.count, cursor.nest);
+    cursor.join(q)
+}
+
+// The inside of an item. A constant is read as the statement that it is.
+fn item_at(text: &[u8], tokens: &[u8], nodes: &mut [u8], at: usize, count: usize, nest: u8) -> Part
+    ensures { λ r. ⌜ Inside item (now (text .entry)) (now (tokens .entry)) at count nest (now (nodes .entry)) r (now (nodes .exit)) ⌝ }
+{
+    let start = Cursor::begin(at, count, nest);
+    let k = start.peek(tokens);
     if k == FUNCTION {
-        let p = function_def(text, tokens, nodes, p);
-        return p.leave(cursor);
+        let p = function_def(text, tokens, nodes, start);
+        return p.ended();
     }
     if k == STRUCT {
-        let p = struct_def(text, tokens, nodes, p);
-        return p.leave(cursor);
+        let p = struct_def(text, tokens, nodes, start);
+        return p.ended();
     }
     if k == CONST {
-        let p = const_def(text, tokens, nodes, p);
-        return p.leave(cursor);
+        let q = stmt_at(text, tokens, nodes, at, count, nest);
+        return q.part;
     }
-    let p = use_stmt(tokens, nodes, p);
-    p.leave(cursor)
+    let p = use_stmt(tokens, nodes, start);
+    p.ended()
 }
 
 fn function_def(text: &[u8], tokens: &[u8], nodes: &mut [u8], cursor: Cursor) -> Cursor
@@ -80,24 +89,18 @@ fn function_def(text: &[u8], tokens: &[u8], nodes: &mut [u8], cursor: Cursor) ->
 fn params(text: &[u8], tokens: &[u8], nodes: &mut [u8], cursor: Cursor) -> Cursor
     ensures { λ r. ⌜ Reads (list parameter) (now (text .entry)) (now (tokens .entry)) cursor (now (nodes .entry)) r (now (nodes .exit)) ⌝ }
 {
-    let p = param(text, tokens, nodes, cursor);
-    let p = p.tick();
-    if p.status == FAILED {
-        return cursor;
-    }
-    let mut p = p;
+    let mut p = cursor;
     while p.status == READING {
-        let k = p.peek(tokens);
-        if k != COMMA {
-            return p;
-        }
-        let q = p.take(tokens, COMMA);
-        let q = param(text, tokens, nodes, q);
+        let q = param(text, tokens, nodes, p);
         let q = q.tick();
         if q.status == FAILED {
-            return p.skip(tokens, COMMA);
+            return p;
         }
-        p = q;
+        let k = q.peek(tokens);
+        if k != COMMA {
+            return q;
+        }
+        p = q.take(tokens, COMMA);
     }
     p
 }
@@ -108,7 +111,7 @@ fn param(text: &[u8], tokens: &[u8], nodes: &mut [u8], cursor: Cursor) -> Cursor
     if cursor.status != READING {
         return cursor;
     }
-    let p = cursor.enter(0);
+    let p = cursor.enter();
     let p = p.spanned_ident(tokens, nodes);
     let p = p.take(tokens, COLON);
     let p = type_expr(text, tokens, nodes, p);
@@ -134,7 +137,7 @@ fn unit_type(nodes: &mut [u8], cursor: Cursor) -> Cursor
     if cursor.status != READING {
         return cursor;
     }
-    let p = cursor.enter(0);
+    let p = cursor.enter();
     let p = p.spanless(nodes, node_kind::TYPE_TUPLE);
     p.leave(cursor)
 }
@@ -153,22 +156,17 @@ fn struct_def(text: &[u8], tokens: &[u8], nodes: &mut [u8], cursor: Cursor) -> C
 fn struct_fields(text: &[u8], tokens: &[u8], nodes: &mut [u8], cursor: Cursor) -> Cursor
     ensures { λ r. ⌜ Reads (fields (rule type)) (now (text .entry)) (now (tokens .entry)) cursor (now (nodes .entry)) r (now (nodes .exit)) ⌝ }
 {
-    let p = struct_field(text, tokens, nodes, cursor);
-    if p.status == FAILED {
-        return cursor;
-    }
-    let mut p = p;
+    let mut p = cursor;
     while p.status == READING {
-        let k = p.peek(tokens);
-        if k != COMMA {
+        let q = struct_field(text, tokens, nodes, p);
+        if q.status == FAILED {
             return p;
         }
-        let q = p.take(tokens, COMMA);
-        let q = struct_field(text, tokens, nodes, q);
-        if q.status == FAILED {
-            return p.skip(tokens, COMMA);
+        let k = q.peek(tokens);
+        if k != COMMA {
+            return q;
         }
-        p = q;
+        p = q.take(tokens, COMMA);
     }
     p
 }
@@ -235,18 +233,17 @@ fn segments(tokens: &[u8], nodes: &mut [u8], cursor: Cursor) -> Cursor
 fn names(tokens: &[u8], nodes: &mut [u8], cursor: Cursor) -> Cursor
     ensures { λ r. ⌜ Puts (list name) (now (tokens .entry)) cursor (now (nodes .entry)) r (now (nodes .exit)) ⌝ }
 {
-    let p = cursor.spanned_ident(tokens, nodes);
-    if p.status == FAILED {
-        return cursor;
-    }
-    let mut p = p;
+    let mut p = cursor;
     while p.status == READING {
-        let q = p.take(tokens, COMMA);
-        let q = q.spanned_ident(tokens, nodes);
+        let q = p.spanned_ident(tokens, nodes);
         if q.status == FAILED {
-            return p.skip(tokens, COMMA);
+            return p;
         }
-        p = q;
+        let k = q.peek(tokens);
+        if k != COMMA {
+            return q;
+        }
+        p = q.take(tokens, COMMA);
     }
     p
 }

@@ -13,7 +13,7 @@ use cursor::Cursor;
 use cursor::FAILED;
 use cursor::READING;
 use cursor::StmtPart;
-use cursor::inner;
+use cursor::deeper;
 use expressions::expr;
 use grammar::node_kind;
 use tables::token_type::BREAK;
@@ -46,13 +46,13 @@ fn stmt(text: &[u8], tokens: &[u8], nodes: &mut [u8], cursor: Cursor) -> Cursor
         nodes,
         cursor.at,
         cursor.count,
-        inner(cursor.nest, 1),
+        deeper(cursor.nest),
     );
     cursor.join(q.part)
 }
 
 // The inside of a statement: its first token says which.
-fn stmt_at(
+pub fn stmt_at(
     text: &[u8],
     tokens: &[u8],
     nodes: &mut [u8],
@@ -162,7 +162,7 @@ fn branches(text: &[u8], tokens: &[u8], nodes: &mut [u8], cursor: Cursor) -> Stm
         nodes,
         cursor.at,
         cursor.count,
-        inner(cursor.nest, 1),
+        deeper(cursor.nest),
     );
     let p = cursor.join(s.part);
     if s.tried {
@@ -177,7 +177,7 @@ fn branches(text: &[u8], tokens: &[u8], nodes: &mut [u8], cursor: Cursor) -> Stm
     if q.status != READING {
         return q.ended_with(false);
     }
-    let t = stmt_at(text, tokens, nodes, q.at, q.count, inner(q.nest, 1));
+    let t = stmt_at(text, tokens, nodes, q.at, q.count, deeper(q.nest));
     let q = q.join(t.part);
     if q.status == FAILED {
         let p = p.whole(tokens, nodes, node_kind::IF);
@@ -237,13 +237,14 @@ fn last_stmt(text: &[u8], tokens: &[u8], nodes: &mut [u8], cursor: Cursor, kind:
         nodes,
         cursor.at,
         cursor.count,
-        inner(cursor.nest, 1),
+        deeper(cursor.nest),
     );
     let p = cursor.join(s.part);
     let p = p.whole(tokens, nodes, kind);
     p.ended_with(s.tried)
 }
 
+// A `let` is read as the statement that it is.
 fn for_init(text: &[u8], tokens: &[u8], nodes: &mut [u8], cursor: Cursor) -> Cursor
     ensures { λ r. ⌜ Reads forInit (now (text .entry)) (now (tokens .entry)) cursor (now (nodes .entry)) r (now (nodes .exit)) ⌝ }
 {
@@ -251,12 +252,15 @@ fn for_init(text: &[u8], tokens: &[u8], nodes: &mut [u8], cursor: Cursor) -> Cur
         return cursor;
     }
     let k = cursor.peek(tokens);
-    let p = cursor.enter(0);
     if k == LET {
-        let p = let_stmt(text, tokens, nodes, p);
-        return p.leave(cursor);
+        let q = stmt_at(text, tokens, nodes, cursor.at, cursor.count, cursor.nest);
+        return cursor.join(q.part);
     }
-    let p = assignment_or_expr(text, tokens, nodes, p);
+    let p = cursor.enter();
+    let p = expr(text, tokens, nodes, p);
+    let p = assigned(text, tokens, nodes, p);
+    let p = p.take(tokens, SEMICOLON);
+    let p = finish(tokens, nodes, p);
     p.leave(cursor)
 }
 
@@ -266,7 +270,7 @@ fn for_step(text: &[u8], tokens: &[u8], nodes: &mut [u8], cursor: Cursor) -> Cur
     if cursor.status != READING {
         return cursor;
     }
-    let p = cursor.enter(0);
+    let p = cursor.enter();
     let p = expr(text, tokens, nodes, p);
     let p = assigned(text, tokens, nodes, p);
     let p = finish(tokens, nodes, p);
@@ -333,7 +337,7 @@ fn let_stmt(text: &[u8], tokens: &[u8], nodes: &mut [u8], cursor: Cursor) -> Cur
     p.whole(tokens, nodes, node_kind::LET)
 }
 
-pub fn const_def(text: &[u8], tokens: &[u8], nodes: &mut [u8], cursor: Cursor) -> Cursor
+fn const_def(text: &[u8], tokens: &[u8], nodes: &mut [u8], cursor: Cursor) -> Cursor
     ensures { λ r. ⌜ Reads constDef (now (text .entry)) (now (tokens .entry)) cursor (now (nodes .entry)) r (now (nodes .exit)) ⌝ }
 {
     let p = cursor.take(tokens, CONST);

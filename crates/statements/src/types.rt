@@ -6,7 +6,8 @@ use cursor::Cursor;
 use cursor::FAILED;
 use cursor::Part;
 use cursor::READING;
-use cursor::inner;
+use cursor::deeper;
+use cursor::type_name;
 use expressions::alloc_types::pointers;
 use expressions::alloc_types::tuple_end;
 use expressions::expr;
@@ -30,12 +31,12 @@ pub fn type_expr(text: &[u8], tokens: &[u8], nodes: &mut [u8], cursor: Cursor) -
         nodes,
         cursor.at,
         cursor.count,
-        inner(cursor.nest, 1),
+        deeper(cursor.nest),
     );
     cursor.join(q)
 }
 
-// The inside of a type.
+// The inside of a type. Types within it call it by itself, so that `type_expr`, which others call, is small enough to be inlined.
 fn type_at(text: &[u8], tokens: &[u8], nodes: &mut [u8], at: usize, count: usize, nest: u8) -> Part
     ensures { λ r. ⌜ Inside type (now (text .entry)) (now (tokens .entry)) at count nest (now (nodes .entry)) r (now (nodes .exit)) ⌝ }
 {
@@ -53,7 +54,8 @@ fn base_type(text: &[u8], tokens: &[u8], nodes: &mut [u8], cursor: Cursor) -> Cu
     }
     let k = cursor.peek(tokens);
     if k == IDENTIFIER {
-        return cursor.named(text, tokens, nodes);
+        let name = type_name(text, tokens, cursor.at);
+        return cursor.leaf(tokens, nodes, IDENTIFIER, node_kind::NAMED, name);
     }
     if k == L_BRACK {
         return array_type(text, tokens, nodes, cursor);
@@ -70,7 +72,11 @@ fn array_type(text: &[u8], tokens: &[u8], nodes: &mut [u8], cursor: Cursor) -> C
         return cursor;
     }
     let p = cursor.take(tokens, L_BRACK);
-    let p = type_expr(text, tokens, nodes, p);
+    if p.status != READING {
+        return p;
+    }
+    let q = type_at(text, tokens, nodes, p.at, p.count, deeper(p.nest));
+    let p = p.join(q);
     let p = p.take(tokens, SEMICOLON);
     let p = array_size(text, tokens, nodes, p);
     let p = p.take(tokens, R_BRACK);
@@ -96,13 +102,28 @@ fn type_entries(text: &[u8], tokens: &[u8], nodes: &mut [u8], cursor: Cursor) ->
     if cursor.status != READING {
         return cursor;
     }
-    let mut p = type_expr(text, tokens, nodes, cursor);
+    let q = type_at(
+        text,
+        tokens,
+        nodes,
+        cursor.at,
+        cursor.count,
+        deeper(cursor.nest),
+    );
+    let mut p = cursor.join(q);
     if p.status == FAILED {
         return cursor;
     }
     while p.status == READING {
         let q = p.take(tokens, COMMA);
-        let q = type_expr(text, tokens, nodes, q);
+        if q.status == FAILED {
+            return p;
+        }
+        if q.status != READING {
+            return q;
+        }
+        let t = type_at(text, tokens, nodes, q.at, q.count, deeper(q.nest));
+        let q = q.join(t);
         if q.status == FAILED {
             return p;
         }

@@ -1,8 +1,9 @@
 -- The reader `alloc_base` of the cycle. Assumes nothing.
-use Rattle.cursor.proofs.Reading.{_∙_, ℕ, arith, body, idle, one-put, one-step, _then_, only, pass, on-step, further}
-use Rattle.cursor.proofs.Cursor.named.Reads as named-reads
+use Rattle.cursor.proofs.Reading.{_∙_, ℕ, arith, body, idle, one-put, one-step, _then_, only, pass, named, on-step, further}
+use Rattle.cursor.proofs.Cursor.leaf.Reads as leaf-reads
 use Rattle.cursor.proofs.Cursor.peek.Reads as peek-reads
 use Rattle.cursor.proofs.Cursor.take.Reads as take-reads
+use Rattle.cursor.proofs.type_name.Reads as type-name-reads
 use Rattle.expressions.proofs.alloc_types.alloc_base.Reads as alloc-base
 use Rattle.expressions.proofs.alloc_types.alloc_entries.Reads as alloc-entries
 use Rattle.expressions.proofs.alloc_types.tuple_end.Reads as tuple-end-reads
@@ -10,7 +11,7 @@ use Rattle.expressions.proofs.alloc_types.+alloc_at+alloc_base+alloc_en
 use Rattle.expressions.proofs.Cycles.{reader-at, reader-below}
 
 abbrev given : ℕ → lts.Claims
-given t = (peek-reads.Asked, peek-reads.Learnt, named-reads.Asked, named-reads.Learnt, take-reads.Asked, take-reads.Learnt, reader-below 6 t, alloc-entries.Post, tuple-end-reads.Asked, tuple-end-reads.Learnt)
+given t = (peek-reads.Asked, peek-reads.Learnt, type-name-reads.Asked, type-name-reads.Learnt, leaf-reads.Asked, leaf-reads.Learnt, take-reads.Asked, take-reads.Learnt, reader-below 6 t, alloc-entries.Post, tuple-end-reads.Asked, tuple-end-reads.Learnt)
 
 pub alloc-base-spec : {M : Type 1} (t : ℕ) → lts.Closed (given t) (reader-at 3 t) alloc-base.Post M
 unfolding body
@@ -19,12 +20,14 @@ alloc-base-spec t = lts.spec (given t) (reader-at 3 t) alloc-base.Post
     (λ c. let if1 = c .if1 .taken in idle if1)
     -- peek-requires
     (λ c κs. tt)
-    -- named-requires
+    -- type-name-requires
+    (λ c κs. tt)
+    -- leaf-requires
     (λ c κs. tt)
     -- same-length
-    (λ c. let c2 = c .before .before in let kept1 = c2 .named .kept .1 .1 .1 .0 in (kept1))
+    (λ c. let c2 = c .before .before in let kept1 = c2 .leaf .kept .1 .1 .0 in (kept1))
     -- returns-2
-    (λ c. let c2 = c .before .before in let named = c2 .named .ensures in let c4 = c2 .before .before in let if2 = c4 .if2 .taken in let c5 = c4 .before in let peek = c5 .peek .ensures in (only peek if2 tt (named)))
+    (λ c. let c2 = c .before .before in let leaf = c2 .leaf .ensures in let c4 = c2 .before .before in let type-name = c4 .type-name .ensures in let c5 = c4 .before in let if2 = c5 .if2 .taken in let c6 = c5 .before in let peek = c6 .peek .ensures in (only peek if2 tt (named type-name leaf)))
     -- take-requires
     (λ c κs. tt)
     -- alloc-entries-requires
