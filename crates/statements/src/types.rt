@@ -1,6 +1,6 @@
 // Types.
 ghost use Rattle.grammar.specs.Derive.{rule, type, _or_};
-ghost use Rattle.grammar.specs.Grammar.{entries, namedType, tupleType, arrayType, size};
+ghost use Rattle.grammar.specs.Grammar.{entries, tupleType, arrayType, size};
 ghost use Rattle.cursor.specs.Read.{Reads, Inside};
 use cursor::Cursor;
 use cursor::FAILED;
@@ -40,23 +40,27 @@ pub fn type_expr(text: &[u8], tokens: &[u8], nodes: &mut [u8], cursor: Cursor) -
 fn type_at(text: &[u8], tokens: &[u8], nodes: &mut [u8], at: usize, count: usize, nest: u8) -> Part
     ensures { λ r. ⌜ Inside type (now (text .entry)) (now (tokens .entry)) at count nest (now (nodes .entry)) r (now (nodes .exit)) ⌝ }
 {
-    let p = Cursor::begin(at, count, nest);
-    let p = base_type(text, tokens, nodes, p);
+    let start = Cursor::begin(at, count, nest);
+    let k = start.peek(tokens);
+    if k == IDENTIFIER {
+        let name = type_name(text, tokens, start.at);
+        let p = start.leaf(tokens, nodes, IDENTIFIER, node_kind::NAMED, name);
+        let p = pointers(tokens, nodes, p);
+        return p.ended();
+    }
+    let p = base_type(text, tokens, nodes, start);
     let p = pointers(tokens, nodes, p);
     p.ended()
 }
 
+// An array or a tuple.
 fn base_type(text: &[u8], tokens: &[u8], nodes: &mut [u8], cursor: Cursor) -> Cursor
-    ensures { λ r. ⌜ Reads (namedType or arrayType or tupleType type) (now (text .entry)) (now (tokens .entry)) cursor (now (nodes .entry)) r (now (nodes .exit)) ⌝ }
+    ensures { λ r. ⌜ Reads (arrayType or tupleType type) (now (text .entry)) (now (tokens .entry)) cursor (now (nodes .entry)) r (now (nodes .exit)) ⌝ }
 {
     if cursor.status != READING {
         return cursor;
     }
     let k = cursor.peek(tokens);
-    if k == IDENTIFIER {
-        let name = type_name(text, tokens, cursor.at);
-        return cursor.leaf(tokens, nodes, IDENTIFIER, node_kind::NAMED, name);
-    }
     if k == L_BRACK {
         return array_type(text, tokens, nodes, cursor);
     }
