@@ -260,7 +260,8 @@ class Reader:
     def __init__(self, fn, recipe, lts, ranks, far):
         self.fn, self.lts, self.ranks, self.far = fn, lts, ranks, far
         self.idle = IDLE.match(fn.body)
-        self.recipe = {k: looked(v, self.idle) for k, v in shape(fn, recipe).items()}
+        own = {k: v for k, v in recipe.items() if k.isupper()}
+        self.recipe = {k: looked(re.sub(r"\b[A-Z]+\b", lambda m: f"({own[m.group(0)]})" if m.group(0) in own else m.group(0), v), self.idle) for k, v in shape(fn, recipe).items()}
         self.loop = bool(lts.loops)
 
     def info(self, thing): return FNS.get(re.sub(r"\d+$", "", thing).replace("-", "_"))

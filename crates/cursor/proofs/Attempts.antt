@@ -105,7 +105,7 @@ module _ {x : Input} where
   pub attempt-take : {k : ℕ} {a : Act} {n : ℕ} {s : S} → n ≤ LIMIT → Attempt x (step (take k a)) n s (yields x (take k a) s)
   attempt-take h = record { derived = stepped; within = λ i m t. elim t [ here e f q ↦ omega arith ] }
 
-  pub attempt-miss : {k : ℕ} {a : Act} {n : ℕ} {s : S} → (token x (s .at) .kind ≡ k → ⊥) → Attempt x (step (take k a)) n s (yields x (take k a) s)
+  attempt-miss : {k : ℕ} {a : Act} {n : ℕ} {s : S} → (token x (s .at) .kind ≡ k → ⊥) → Attempt x (step (take k a)) n s (yields x (take k a) s)
   attempt-miss h = record { derived = stepped; within = λ i m t. elim t [ here e f q ↦ absurd (h e) ] }
 
   -- a token that is there and one that is not

@@ -37,7 +37,7 @@ upto-if true e f = e
 upto-if false e f = f
 
 -- the first part is the one before which there is none
-pub upto-first : {l n m a a′ d d′ : ℕ} → Upto MAX16 n m → Upto l a a′ → Upto l d d′ → Upto l (cond (eqb n 0) a d) (cond (eqb m 0) a′ d′)
+upto-first : {l n m a a′ d d′ : ℕ} → Upto MAX16 n m → Upto l a a′ → Upto l d d′ → Upto l (cond (eqb n 0) a d) (cond (eqb m 0) a′ d′)
 upto-first {m = m} e f g = rw (test 0 (omega arith) e) (upto-if (eqb m 0) f g)
 
 -- ---- states

@@ -72,7 +72,7 @@ module _ {w : List ℕ} where
   on-free (free y) = on (y [] w [])
 
   -- a cursor that differs in what is gathered, or in the nest
-  pub same-place : {p q : Cursor} → q .at ≡ p .at → q .status ≡ p .status → Ahead false w p q
+  same-place : {p q : Cursor} → q .at ≡ p .at → q .status ≡ p .status → Ahead false w p q
   unfolding ahead-of
   same-place e f = ahead (λ z. (sym f ∙ z, rw e (omega arith)))
 

@@ -1,4 +1,4 @@
--- A list that a function reads with a loop of its own. Assumes nothing.
+-- Lists, which a function reads with a loop of its own. Assumes nothing.
 use mathlib.Core.Path.{_≡_, refl, sym, _∙_}
 use mathlib.Core.Bool.{false}
 use mathlib.Core.List.{List}
@@ -16,7 +16,7 @@ use Rattle.grammar.proofs.Unique.{unique, apart}
 use Rattle.grammar.proofs.Progress.{sane?}
 use Rattle.grammar.proofs.Whole.{solid}
 use Rattle.cursor.specs.Entries.{input}
-use Rattle.cursor.specs.Read.{READING, FAILED, Represents, Result, matched, failed, exceeded, Reads, still, reads, Step, steps}
+use Rattle.cursor.specs.Read.{READING, FAILED, Represents, Result, matched, failed, exceeded, Reads, still, reads, Step}
 use Rattle.cursor.specs.declared.Cursor.{Cursor}
 use Rattle.cursor.proofs.Laws.{clash, status-as, some, idle, nothing, _then_, first, absent, pass, many-miss, fine, opt-never, never-failed, one-step}
 use Rattle.cursor.proofs.Falls.{Ahead, on, on-step, _and-on_, at-here, was, weaken}
@@ -40,35 +40,13 @@ there {x} {k} {s} e d = apart (unique d (let c : Derives body x (tok k) s (yield
 
 module _ {text w : List ℕ} where
   -- ---- a trailing comma is allowed
-  pub listed-none : {g : G} {p q : Cursor} {T U : List ℕ} → Reads g text w p T q U → q .status ≡ FAILED → Reads (list g) text w p T p U
-  listed-none y o = absent (y then idle (λ z. clash 1 0 o z (omega arith))) o
+  -- the first, the others, and a comma or none, of which only the first can fail
+  list-of : {g : G} {p q r e : Cursor} {T U W : List ℕ} → Reads g text w p T q U → (q .status ≡ FAILED → ⊥) → Reads (many (another g)) text w q U r W → Reads (opt (tok COMMA)) text w r W e W → Reads (list g) text w p T e W
+  list-of y n m d = first (y then m then d) (never-failed opt-never d (fine m n))
 
-  pub listed : {g : G} {p q r e : Cursor} {T U W : List ℕ} → Reads g text w p T q U → (q .status ≡ FAILED → ⊥) → Reads (many (another g)) text w q U r W → Step (opt (tok COMMA)) w r e → Reads (list g) text w p T e W
-  listed y n m c = let d = one-step c in first (y then m then d) (never-failed opt-never d (fine m n))
+  no-comma : {k : ℕ} {p : Cursor} {T : List ℕ} → k ≡ tokenAt w (p .at) .kind → (k ≡ COMMA → ⊥) → Reads (opt (tok COMMA)) text w p T p T
+  no-comma e f = pass {g = tok COMMA} e (f, tt) tt nothing
 
-  -- no comma follows: there is no more of it
-  listed-over : {k : ℕ} {g : G} {p q r : Cursor} {T U W : List ℕ} → Reads g text w p T q U → (q .status ≡ FAILED → ⊥) → Reads (many (another g)) text w q U r W → k ≡ tokenAt w (r .at) .kind → (k ≡ COMMA → ⊥)
-      → Reads (list g) text w p T r W
-  listed-over {r = r} {W = W} y n m e h =
-      let d : Reads (opt (tok COMMA)) text w r W r W = pass {g = tok COMMA} e (h, tt) tt nothing in
-      first (y then m then d) (never-failed opt-never d (fine m n))
-
-  pub listed-one : {k : ℕ} {g : G} {p q : Cursor} {T U : List ℕ} → Yes (sane? solid g) → Reads g text w p T q U → (q .status ≡ FAILED → ⊥) → k ≡ tokenAt w (q .at) .kind → (k ≡ COMMA → ⊥) → Reads (list g) text w p T q U
-  listed-one z y n e h = listed-over y n (many-miss e (h, tt) z) e h
-
-  pub listed-miss : {k : ℕ} {g : G} {p q r : Cursor} {T U W : List ℕ} → Yes (sane? solid g) → Reads g text w p T q U → (q .status ≡ FAILED → ⊥) → Looping text w (another g) q U r W → k ≡ tokenAt w (r .at) .kind → (k ≡ COMMA → ⊥)
-      → Reads (list g) text w p T r W
-  listed-miss z y n L e h = listed-over y n (rounds-miss L e (h, tt) z) e h
-
-  pub listed-end : {g : G} {p q r r′ e : Cursor} {T U W X : List ℕ} → Reads g text w p T q U → (q .status ≡ FAILED → ⊥) → Looping text w (another g) q U r W → r .status ≡ READING
-      → Reads (another g) text w r W r′ X → r′ .status ≡ FAILED → Step (opt (tok COMMA)) w r e → Reads (list g) text w p T e X
-  listed-end y n L z u o c = listed y n (rounds-end L z u o) c
-
-  pub listed-off : {g : G} {p q r : Cursor} {T U W : List ℕ} → Reads g text w p T q U → (q .status ≡ FAILED → ⊥) → Looping text w (another g) q U r W → (r .status ≡ READING → ⊥)
-      → Reads (list g) text w p T r W
-  listed-off y n L h = let l = rounds-off L h in first (y then l then idle h) (fine l n)
-
-  -- ---- by a loop
   comma-taken : {k : ℕ} {p q : Cursor} {T : List ℕ} → k ≡ tokenAt w (p .at) .kind → k ≡ COMMA → (p .status ≡ FAILED → ⊥) → Reads (tok COMMA) text w p T q T → q .status ≡ FAILED → ⊥
   comma-taken e f n (still m i j) o = n (status-as (sym i) o)
   comma-taken {p = p} {q} {T} e f n (reads z l) o = let (s, v) = some p in go s v (l s v)
@@ -96,8 +74,8 @@ module _ {text w : List ℕ} where
   listing-none {g} {p₀} {p} {q} {T₀} {T} {U} L z y o = go (L .so-far) y
     where
       go : SoFar text w g p₀ T₀ p T → Reads g text w p T q U → Reads (list g) text w p₀ T₀ p U
-      go (none-yet i j) y = rw i (listed-none (rw (i, j) at y) o)
-      go (past-comma y₀ n₀ L₀ c₀ m) y = listed-end y₀ n₀ L₀ (was (on-step c₀) z) (one-step c₀ then y) o (steps (λ text T. first (one-step c₀) m))
+      go (none-yet i j) y = rw i (absent ((rw (i, j) at y) then idle (λ z. clash 1 0 o z (omega arith))) o)
+      go (past-comma y₀ n₀ L₀ c₀ m) y = list-of y₀ n₀ (rounds-end L₀ (was (on-step c₀) z) (one-step c₀ then y) o) (first (one-step c₀) m)
 
   -- no comma follows
   pub listing-miss : {k : ℕ} {g : G} {p₀ p q : Cursor} {T₀ T U : List ℕ} → Yes (sane? solid g) → Listing text w g p₀ T₀ p T → Reads g text w p T q U → (q .status ≡ FAILED → ⊥) → length U ≡ length T
@@ -105,8 +83,8 @@ module _ {text w : List ℕ} where
   listing-miss {g = g} {p₀} {p} {q} {T₀} {T} {U} a L y n h e f = go (L .so-far) y
     where
       go : SoFar text w g p₀ T₀ p T → Reads g text w p T q U → Reads (list g) text w p₀ T₀ q U
-      go (none-yet i j) y = listed-one a (rw (i, j) at y) n e f
-      go (past-comma y₀ n₀ L₀ c₀ m) y = listed-miss a y₀ n₀ (rounds-next L₀ (one-step c₀ then y) n (h ∙ L₀ .kept)) e f
+      go (none-yet i j) y = list-of (rw (i, j) at y) n (many-miss e (f, tt) a) (no-comma e f)
+      go (past-comma y₀ n₀ L₀ c₀ m) y = list-of y₀ n₀ (rounds-miss (rounds-next L₀ (one-step c₀ then y) n (h ∙ L₀ .kept)) e (f, tt) a) (no-comma e f)
 
   -- it is not reading
   pub listing-off : {g : G} {p₀ p : Cursor} {T₀ T : List ℕ} → Listing text w g p₀ T₀ p T → (p .status ≡ READING → ⊥) → Reads (list g) text w p₀ T₀ p T
@@ -114,7 +92,7 @@ module _ {text w : List ℕ} where
     where
       go : SoFar text w g p₀ T₀ p T → Reads (list g) text w p₀ T₀ p T
       go (none-yet i j) = still (λ z. h (status-as i z)) i j
-      go (past-comma y₀ n₀ L₀ c₀ m) = listed-off y₀ n₀ (rounds-next L₀ (one-step c₀ then idle h) m (L₀ .kept)) h
+      go (past-comma y₀ n₀ L₀ c₀ m) = list-of y₀ n₀ (rounds-off (rounds-next L₀ (one-step c₀ then idle h) m (L₀ .kept)) h) (idle h)
 
   -- ---- it is not
   pub entries-none : {g : G} {p q : Cursor} {T U : List ℕ} → Reads g text w p T q U → q .status ≡ FAILED → Reads (entries g) text w p T p U

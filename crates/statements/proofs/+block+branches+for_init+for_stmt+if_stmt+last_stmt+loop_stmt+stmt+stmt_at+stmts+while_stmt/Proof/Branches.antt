@@ -33,7 +33,7 @@ branches-spec t = lts.spec (given t) (reader-at 22 t) branches.Post
     -- same-length
     (λ c. let c3 = c .before .before .before in let kept1 = c3 .whole .kept .1 .1 .0 in let c9 = c3 .before .before .before .before .before .before in let kept2 = c9 .stmt-at .kept .1 .1 .0 in (kept1 ∙ kept2))
     -- returns-2
-    (λ c. let ended-with2 = c .ended-with2 .ensures in let c3 = c .before .before .before in let whole = c3 .whole .ensures in let c5 = c3 .before .before in let if2 = c5 .if2 .taken in let c6 = c5 .before in let join = c6 .join .ensures in let c9 = c6 .before .before .before in let stmt-at = c9 .stmt-at .ensures in let c10 = c9 .before in let deeper = c10 .deeper .ensures in let c12 = c10 .before .before in let if1 = c12 .if1 .left in by-stmt deeper if1 stmt-at join then-ends no-else (tried-outside deeper stmt-at join if2) (one-put whole) ended-with2)
+    (λ c. let ended-with2 = c .ended-with2 .ensures in let c3 = c .before .before .before in let whole = c3 .whole .ensures in let c5 = c3 .before .before in let if2 = c5 .if2 .taken in let c6 = c5 .before in let join = c6 .join .ensures in let c9 = c6 .before .before .before in let stmt-at = c9 .stmt-at .ensures in let c10 = c9 .before in let deeper = c10 .deeper .ensures in let c12 = c10 .before .before in let if1 = c12 .if1 .left in (by-stmt deeper if1 stmt-at join) then-ends no-else (tried-outside deeper stmt-at join if2) (one-put whole) ended-with2)
     -- take-requires
     (λ c κs. tt)
     -- whole-requires-2
@@ -43,13 +43,13 @@ branches-spec t = lts.spec (given t) (reader-at 22 t) branches.Post
     -- same-length-2
     (λ c. let c3 = c .before .before .before in let kept1 = c3 .whole2 .kept .1 .1 .0 in let c12 = c3 .before .before .before .before .before .before .before .before .before in let kept2 = c12 .stmt-at .kept .1 .1 .0 in (kept1 ∙ kept2))
     -- returns-3
-    (λ c. let ended-with3 = c .ended-with3 .ensures in let c3 = c .before .before .before in let whole2 = c3 .whole2 .ensures in let c5 = c3 .before .before in let if3 = c5 .if3 .taken in let c7 = c5 .before .before in let take = c7 .take .ensures in let c9 = c7 .before .before in let join = c9 .join .ensures in let c12 = c9 .before .before .before in let stmt-at = c12 .stmt-at .ensures in let c13 = c12 .before in let deeper = c13 .deeper .ensures in let c15 = c13 .before .before in let if1 = c15 .if1 .left in by-stmt deeper if1 stmt-at join then-ends failed-else ((one-step take) then idle (fell if3)) if3 (one-put whole2) ended-with3)
+    (λ c. let ended-with3 = c .ended-with3 .ensures in let c3 = c .before .before .before in let whole2 = c3 .whole2 .ensures in let c5 = c3 .before .before in let if3 = c5 .if3 .taken in let c7 = c5 .before .before in let take = c7 .take .ensures in let c9 = c7 .before .before in let join = c9 .join .ensures in let c12 = c9 .before .before .before in let stmt-at = c12 .stmt-at .ensures in let c13 = c12 .before in let deeper = c13 .deeper .ensures in let c15 = c13 .before .before in let if1 = c15 .if1 .left in (by-stmt deeper if1 stmt-at join) then-ends failed-else ((one-step take) then idle (fell if3)) if3 (one-put whole2) ended-with3)
     -- ended-with-requires-4
     (λ c κs. tt)
     -- same-length-3
     (λ c. let c10 = c .before .before .before .before .before .before .before .before .before .before in let kept1 = c10 .stmt-at .kept .1 .1 .0 in (kept1))
     -- returns-4
-    (λ c. let ended-with4 = c .ended-with4 .ensures in let c1 = c .before in let if4 = c1 .if4 .taken in let c3 = c1 .before .before in let if3 = c3 .if3 .left in let c5 = c3 .before .before in let take = c5 .take .ensures in let c7 = c5 .before .before in let join = c7 .join .ensures in let c10 = c7 .before .before .before in let stmt-at = c10 .stmt-at .ensures in let c11 = c10 .before in let deeper = c11 .deeper .ensures in let c13 = c11 .before .before in let if1 = c13 .if1 .left in by-stmt deeper if1 stmt-at join then-ends first ((one-step take) then idle if4) if3 then-ends ends-by refl (idle if4) ended-with4)
+    (λ c. let ended-with4 = c .ended-with4 .ensures in let c1 = c .before in let if4 = c1 .if4 .taken in let c3 = c1 .before .before in let if3 = c3 .if3 .left in let c5 = c3 .before .before in let take = c5 .take .ensures in let c7 = c5 .before .before in let join = c7 .join .ensures in let c10 = c7 .before .before .before in let stmt-at = c10 .stmt-at .ensures in let c11 = c10 .before in let deeper = c11 .deeper .ensures in let c13 = c11 .before .before in let if1 = c13 .if1 .left in (by-stmt deeper if1 stmt-at join) then-ends first ((one-step take) then idle if4) if3 then-ends ends-by refl (idle if4) ended-with4)
     -- deeper-requires-2
     (λ c κs. tt)
     -- stmt-at-requires-2
@@ -63,7 +63,7 @@ branches-spec t = lts.spec (given t) (reader-at 22 t) branches.Post
     -- same-length-4
     (λ c. let c3 = c .before .before .before in let kept1 = c3 .whole3 .kept .1 .1 .0 in let c10 = c3 .before .before .before .before .before .before .before in let kept2 = c10 .stmt-at2 .kept .1 .1 .0 in let c22 = c10 .before .before .before .before .before .before .before .before .before .before .before .before in let kept3 = c22 .stmt-at .kept .1 .1 .0 in (kept1 ∙ kept2 ∙ kept3))
     -- returns-5
-    (λ c. let ended-with5 = c .ended-with5 .ensures in let c3 = c .before .before .before in let whole3 = c3 .whole3 .ensures in let c5 = c3 .before .before in let if5 = c5 .if5 .taken in let c7 = c5 .before .before in let join2 = c7 .join2 .ensures in let c10 = c7 .before .before .before in let stmt-at2 = c10 .stmt-at2 .ensures in let c11 = c10 .before in let deeper2 = c11 .deeper2 .ensures in let c13 = c11 .before .before in let if4 = c13 .if4 .left in let c17 = c13 .before .before .before .before in let take = c17 .take .ensures in let c19 = c17 .before .before in let join = c19 .join .ensures in let c22 = c19 .before .before .before in let stmt-at = c22 .stmt-at .ensures in let c23 = c22 .before in let deeper = c23 .deeper .ensures in let c25 = c23 .before .before in let if1 = c25 .if1 .left in by-stmt deeper if1 stmt-at join then-ends failed-else ((one-step take) then by-stmt deeper2 if4 stmt-at2 join2) if5 (one-put whole3) ended-with5)
+    (λ c. let ended-with5 = c .ended-with5 .ensures in let c3 = c .before .before .before in let whole3 = c3 .whole3 .ensures in let c5 = c3 .before .before in let if5 = c5 .if5 .taken in let c7 = c5 .before .before in let join2 = c7 .join2 .ensures in let c10 = c7 .before .before .before in let stmt-at2 = c10 .stmt-at2 .ensures in let c11 = c10 .before in let deeper2 = c11 .deeper2 .ensures in let c13 = c11 .before .before in let if4 = c13 .if4 .left in let c17 = c13 .before .before .before .before in let take = c17 .take .ensures in let c19 = c17 .before .before in let join = c19 .join .ensures in let c22 = c19 .before .before .before in let stmt-at = c22 .stmt-at .ensures in let c23 = c22 .before in let deeper = c23 .deeper .ensures in let c25 = c23 .before .before in let if1 = c25 .if1 .left in (by-stmt deeper if1 stmt-at join) then-ends failed-else ((one-step take) then by-stmt deeper2 if4 stmt-at2 join2) if5 (one-put whole3) ended-with5)
     -- whole-requires-4
     (λ c κs. tt)
     -- ended-with-requires-6
@@ -71,4 +71,4 @@ branches-spec t = lts.spec (given t) (reader-at 22 t) branches.Post
     -- same-length-5
     (λ c. let c3 = c .before .before .before in let kept1 = c3 .whole4 .kept .1 .1 .0 in let c10 = c3 .before .before .before .before .before .before .before in let kept2 = c10 .stmt-at2 .kept .1 .1 .0 in let c22 = c10 .before .before .before .before .before .before .before .before .before .before .before .before in let kept3 = c22 .stmt-at .kept .1 .1 .0 in (kept1 ∙ kept2 ∙ kept3))
     -- returns-6
-    (λ c. let ended-with6 = c .ended-with6 .ensures in let c3 = c .before .before .before in let whole4 = c3 .whole4 .ensures in let c5 = c3 .before .before in let if5 = c5 .if5 .left in let c7 = c5 .before .before in let join2 = c7 .join2 .ensures in let c10 = c7 .before .before .before in let stmt-at2 = c10 .stmt-at2 .ensures in let c11 = c10 .before in let deeper2 = c11 .deeper2 .ensures in let c13 = c11 .before .before in let if4 = c13 .if4 .left in let c17 = c13 .before .before .before .before in let take = c17 .take .ensures in let c19 = c17 .before .before in let join = c19 .join .ensures in let c22 = c19 .before .before .before in let stmt-at = c22 .stmt-at .ensures in let c23 = c22 .before in let deeper = c23 .deeper .ensures in let c25 = c23 .before .before in let if1 = c25 .if1 .left in by-stmt deeper if1 stmt-at join then-ends first ((one-step take) then by-stmt deeper2 if4 stmt-at2 join2) if5 then-ends ends-close (one-put whole4) ended-with6 (tried-outside deeper2 stmt-at2 join2))
+    (λ c. let ended-with6 = c .ended-with6 .ensures in let c3 = c .before .before .before in let whole4 = c3 .whole4 .ensures in let c5 = c3 .before .before in let if5 = c5 .if5 .left in let c7 = c5 .before .before in let join2 = c7 .join2 .ensures in let c10 = c7 .before .before .before in let stmt-at2 = c10 .stmt-at2 .ensures in let c11 = c10 .before in let deeper2 = c11 .deeper2 .ensures in let c13 = c11 .before .before in let if4 = c13 .if4 .left in let c17 = c13 .before .before .before .before in let take = c17 .take .ensures in let c19 = c17 .before .before in let join = c19 .join .ensures in let c22 = c19 .before .before .before in let stmt-at = c22 .stmt-at .ensures in let c23 = c22 .before in let deeper = c23 .deeper .ensures in let c25 = c23 .before .before in let if1 = c25 .if1 .left in (by-stmt deeper if1 stmt-at join) then-ends first ((one-step take) then by-stmt deeper2 if4 stmt-at2 join2) if5 then-ends ends-close (one-put whole4) ended-with6 (tried-outside deeper2 stmt-at2 join2))

@@ -54,7 +54,7 @@ pattern-at-spec t = lts.spec (given t) (inside-at 3 t) pattern-at.Post
     -- same-length-2
     (λ c. let c3 = c .before .before .before in let kept1 = c3 .spanless .kept .1 .0 in let c8 = c3 .before .before .before .before .before in let kept2 = c8 .patterns .kept .1 .1 .0 in let c13 = c8 .before .before .before .before .before in let kept3 = c13 .pattern-at .kept .1 .1 .0 in let c21 = c13 .before .before .before .before .before .before .before .before in let kept4 = c21 .pattern .kept .1 .1 .0 in (kept1 ∙ kept2 ∙ kept3 ∙ kept4))
     -- returns-2
-    (λ c. let ended2 = c .ended2 .ensures in let c3 = c .before .before .before in let spanless = c3 .spanless .ensures in let c5 = c3 .before .before in let take3 = c5 .take3 .ensures in let c8 = c5 .before .before .before in let patterns = c8 .patterns .ensures in let c10 = c8 .before .before in let join = c10 .join .ensures in let c13 = c10 .before .before .before in let pattern-at = c13 .pattern-at .ensures in let c14 = c13 .before in let deeper = c14 .deeper .ensures in let c16 = c14 .before .before in let if2 = c16 .if2 .left in let c18 = c16 .before .before in let take2 = c18 .take2 .ensures in let c21 = c18 .before .before .before in let pattern = c21 .pattern .ensures in let c23 = c21 .before .before in let take = c23 .take .ensures in let c24 = c23 .before in let if1 = c24 .if1 .taken in let c25 = c24 .before in let peek = c25 .peek .ensures in let c26 = c25 .before in let begin = c26 .begin .ensures in inside-by begin (only peek if1 tt ((one-step take) then pattern then (one-step take2) then by-part G.pattern (record { upto = omega (arith, deeper) }) if2 pattern-at join then patterns then (one-step take3) then (one-grown spanless))) ended2)
+    (λ c. let ended2 = c .ended2 .ensures in let c3 = c .before .before .before in let spanless = c3 .spanless .ensures in let c5 = c3 .before .before in let take3 = c5 .take3 .ensures in let c8 = c5 .before .before .before in let patterns = c8 .patterns .ensures in let c10 = c8 .before .before in let join = c10 .join .ensures in let c13 = c10 .before .before .before in let pattern-at = c13 .pattern-at .ensures in let c14 = c13 .before in let deeper = c14 .deeper .ensures in let c16 = c14 .before .before in let if2 = c16 .if2 .left in let c18 = c16 .before .before in let take2 = c18 .take2 .ensures in let c21 = c18 .before .before .before in let pattern = c21 .pattern .ensures in let c23 = c21 .before .before in let take = c23 .take .ensures in let c24 = c23 .before in let if1 = c24 .if1 .taken in let c25 = c24 .before in let peek = c25 .peek .ensures in let c26 = c25 .before in let begin = c26 .begin .ensures in inside-by begin (only peek if1 tt ((one-step take) then pattern then (one-step take2) then (by-part G.pattern (record { upto = omega (arith, deeper) }) if2 pattern-at join) then patterns then (one-step take3) then (one-grown spanless))) ended2)
     -- spanned-ident-requires
     (λ c κs. tt)
     -- ended-requires-3

@@ -55,11 +55,11 @@ type-entries-spec t = lts.spec (given t) (reader-at 6 t) type-entries.Post Inv-l
     -- same-length-4
     (λ c. let c5 = c .before .before .before .before .before in let kept1 = c5 .type-at2 .kept .1 .1 .0 in let c15 = c5 .before .before .before .before .before .before .before .before .before .before in let kept2 = c15 .loop .inv in let c21 = c15 .before .before .before .before .before .before in let kept3 = c21 .type-at .kept .1 .1 .0 in (kept1 ∙ kept2 .kept ∙ kept3))
     -- returns-5
-    (λ c. let if6 = c .if6 .taken in let c2 = c .before .before in let join2 = c2 .join2 .ensures in let c5 = c2 .before .before .before in let type-at2 = c5 .type-at2 .ensures in let c6 = c5 .before in let deeper2 = c6 .deeper2 .ensures in let c8 = c6 .before .before in let if5 = c8 .if5 .left in let c12 = c8 .before .before .before .before in let take = c12 .take .ensures in let c13 = c12 .before in let if3 = c13 .if3 .taken in let c15 = c13 .before .before in let loop = c15 .loop .inv in let c16 = c15 .before in let if2 = c16 .if2 .left in let c18 = c16 .before .before in let join = c18 .join .ensures in let c21 = c18 .before .before .before in let type-at = c21 .type-at .ensures in let c22 = c21 .before in let deeper = c22 .deeper .ensures in let c24 = c22 .before .before in let if1 = c24 .if1 .left in entries-end (by-part G.type (record { upto = omega (arith, deeper) }) if1 type-at join) if2 loop if3 ((one-step take) then by-part G.type (record { upto = omega (arith, deeper2) }) if5 type-at2 join2) if6)
+    (λ c. let if6 = c .if6 .taken in let c2 = c .before .before in let join2 = c2 .join2 .ensures in let c5 = c2 .before .before .before in let type-at2 = c5 .type-at2 .ensures in let c6 = c5 .before in let deeper2 = c6 .deeper2 .ensures in let c8 = c6 .before .before in let if5 = c8 .if5 .left in let c12 = c8 .before .before .before .before in let take = c12 .take .ensures in let c13 = c12 .before in let if3 = c13 .if3 .taken in let c15 = c13 .before .before in let loop = c15 .loop .inv in let c16 = c15 .before in let if2 = c16 .if2 .left in let c18 = c16 .before .before in let join = c18 .join .ensures in let c21 = c18 .before .before .before in let type-at = c21 .type-at .ensures in let c22 = c21 .before in let deeper = c22 .deeper .ensures in let c24 = c22 .before .before in let if1 = c24 .if1 .left in entries-end (by-part G.type (record { upto = omega (arith, deeper) }) if1 type-at join) if2 loop if3 ((one-step take) then (by-part G.type (record { upto = omega (arith, deeper2) }) if5 type-at2 join2)) if6)
     -- loop-less
     (λ c. let c2 = c .before .before in let join2 = c2 .join2 .ensures in let c5 = c2 .before .before .before in let type-at2 = c5 .type-at2 .ensures in let c6 = c5 .before in let deeper2 = c6 .deeper2 .ensures in let c8 = c6 .before .before in let if5 = c8 .if5 .left in let c12 = c8 .before .before .before .before in let take = c12 .take .ensures in let c13 = c12 .before in let if3 = c13 .if3 .taken in further 0 0 refl if3 (on-step take and-on on (by-part G.type (record { upto = omega (arith, deeper2) }) if5 type-at2 join2)) tt (omega arith))
     -- loop-again
-    (λ c. let if6 = c .if6 .left in let c2 = c .before .before in let join2 = c2 .join2 .ensures in let c5 = c2 .before .before .before in let type-at2 = c5 .type-at2 .ensures in let kept1 = c5 .type-at2 .kept .1 .1 .0 in let c6 = c5 .before in let deeper2 = c6 .deeper2 .ensures in let c8 = c6 .before .before in let if5 = c8 .if5 .left in let c12 = c8 .before .before .before .before in let take = c12 .take .ensures in let c15 = c12 .before .before .before in let loop = c15 .loop .inv in let kept2 = c15 .loop .inv in rounds-next loop ((one-step take) then by-part G.type (record { upto = omega (arith, deeper2) }) if5 type-at2 join2) if6 (kept1 ∙ kept2 .kept))
+    (λ c. let if6 = c .if6 .left in let c2 = c .before .before in let join2 = c2 .join2 .ensures in let c5 = c2 .before .before .before in let type-at2 = c5 .type-at2 .ensures in let kept1 = c5 .type-at2 .kept .1 .1 .0 in let c6 = c5 .before in let deeper2 = c6 .deeper2 .ensures in let c8 = c6 .before .before in let if5 = c8 .if5 .left in let c12 = c8 .before .before .before .before in let take = c12 .take .ensures in let c15 = c12 .before .before .before in let loop = c15 .loop .inv in let kept2 = c15 .loop .inv in rounds-next loop ((one-step take) then (by-part G.type (record { upto = omega (arith, deeper2) }) if5 type-at2 join2)) if6 (kept1 ∙ kept2 .kept))
     -- same-length-5
     (λ c. let c2 = c .before .before in let kept1 = c2 .loop .inv in let c8 = c2 .before .before .before .before .before .before in let kept2 = c8 .type-at .kept .1 .1 .0 in (kept1 .kept ∙ kept2))
     -- returns-6
