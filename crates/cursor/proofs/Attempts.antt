@@ -124,47 +124,35 @@ module _ {x : Input} where
       quiet (here e f q) z = absurd z
 
   -- ---- above it
-  pub exceeds-by : {g h : G} {n k : ℕ} {s t : S} → ((i m : ℕ) → Takes body x nests i m g n s → Takes body x nests i m h k t) → Exceeds x g n s → Exceeds x h k t
-  exceeds-by f c = record { token = c .token; nest = c .nest; above = c .above; takes = f _ _ (c .takes) }
+  pub exceeds-by : {g h : G} {n k : ℕ} {s t : S} → ((i m : ℕ) → LIMIT < m → Takes body x nests i m g n s → Takes body x nests i m h k t) → Exceeds x g n s → Exceeds x h k t
+  exceeds-by f c = record { token = c .token; nest = c .nest; above = c .above; takes = f _ _ (c .above) (c .takes) }
 
   pub exceeds-and-left : {g h : G} {n : ℕ} {s : S} → Exceeds x g n s → Exceeds x (g & h) n s
-  exceeds-and-left = exceeds-by (λ i m. and-left)
+  exceeds-and-left = exceeds-by (λ i m l. and-left)
 
   pub exceeds-and-right : {g h : G} {n : ℕ} {s t : S} → Derives body x g s (got t) → Exceeds x h n t → Exceeds x (g & h) n s
-  exceeds-and-right d = exceeds-by (λ i m. and-right d)
+  exceeds-and-right d = exceeds-by (λ i m l. and-right d)
 
   pub exceeds-or-left : {g h : G} {n : ℕ} {s : S} → Exceeds x g n s → Exceeds x (g or h) n s
-  exceeds-or-left = exceeds-by (λ i m. or-left)
+  exceeds-or-left = exceeds-by (λ i m l. or-left)
 
   pub exceeds-or-right : {g h : G} {n : ℕ} {s : S} → Derives body x g s none → Exceeds x h n s → Exceeds x (g or h) n s
-  exceeds-or-right d = exceeds-by (λ i m. or-right d)
+  exceeds-or-right d = exceeds-by (λ i m l. or-right d)
 
   pub exceeds-second : {g h : G} {n : ℕ} {s : S} → Attempt x g n s none → Exceeds x (g or h) n s → Exceeds x h n s
-  exceeds-second c e =
-      record {
-        token = e .token;
-        nest = e .nest;
-        above = e .above;
-        takes = elim (e .takes) [ or-left u ↦ absurd (omega (arith, e .above, c .within _ _ u)) | or-right d u ↦ u ];
-      }
+  exceeds-second c = exceeds-by (λ i m l t. elim t [ or-left u ↦ absurd (omega (arith, l, c .within i m u)) | or-right d u ↦ u ])
 
   pub exceeds-first : {g h : G} {n : ℕ} {s : S} → Attempt x h n s none → Exceeds x (g or h) n s → Exceeds x g n s
-  exceeds-first c e =
-      record {
-        token = e .token;
-        nest = e .nest;
-        above = e .above;
-        takes = elim (e .takes) [ or-left u ↦ u | or-right d u ↦ absurd (omega (arith, e .above, c .within _ _ u)) ];
-      }
+  exceeds-first c = exceeds-by (λ i m l t. elim t [ or-left u ↦ u | or-right d u ↦ absurd (omega (arith, l, c .within i m u)) ])
 
   pub exceeds-now : {g : G} {n : ℕ} {s : S} → Exceeds x g n s → Exceeds x (many g) n s
-  exceeds-now = exceeds-by (λ i m. now)
+  exceeds-now = exceeds-by (λ i m l. now)
 
   pub exceeds-later : {g : G} {n : ℕ} {s t : S} → Derives body x g s (got t) → Exceeds x (many g) n t → Exceeds x (many g) n s
-  exceeds-later d = exceeds-by (λ i m. later d)
+  exceeds-later d = exceeds-by (λ i m l. later d)
 
   pub exceeds-both : {g h : G} {n : ℕ} {s : S} → Exceeds x g n s → Exceeds x (both g h) n s
-  exceeds-both = exceeds-by (λ i m. both-first)
+  exceeds-both = exceeds-by (λ i m l. both-first)
 
   pub exceeds-rule : {r : R} {n k : ℕ} {s : S} → Upto (LIMIT + 1) k (n + nests r) → Exceeds x (body r) k (enter s) → Exceeds x (rule r) n s
   exceeds-rule {r} {n} e c =

@@ -90,6 +90,11 @@ missed text w {k = k} {s = s} e a y v =
     let e′ : k ≡ token (input text w) (s .at) .kind = rw (← v .at, tokens-at) e in
     miss e′ a y
 
+-- the same where the token's kind is told by a number
+missed-at : (text w : List ℕ) {k j : ℕ} {g : G} {p : Cursor} {s : S} → k ≡ tokenAt w (p .at) .kind → k ≡ j → Yes (absent? j (firsts g) && (not (empties g) && sane? solid g)) → Represents p s → Attempt (input text w) g (p .nest) s none
+missed-at text w {j = j} {g = g} e f y =
+    missed text w (sym f ∙ e) (absent-of j (firsts g) (and-l (absent? j (firsts g)) _ y)) (and-r (absent? j (firsts g)) _ y)
+
 module _ {text w : List ℕ} where
   -- nothing is read where nothing is being read
   pub idle : {g : G} {p : Cursor} {T : List ℕ} → (p .status ≡ READING → ⊥) → Reads g text w p T p T
@@ -171,17 +176,17 @@ module _ {text w : List ℕ} where
   pub absent : {g : G} {p q : Cursor} {T U : List ℕ} → Reads g text w p T q U → q .status ≡ FAILED → Reads (g or step done) text w p T p U
   absent y o = other y o nothing
 
-  pub never-failed : {g : G} {p q : Cursor} {T U : List ℕ} → ((u : S) → Derives body (input text w) g u none → ⊥) → Reads g text w p T q U → (p .status ≡ FAILED → ⊥) → q .status ≡ FAILED → ⊥
+  pub never-failed : {g : G} {p q : Cursor} {T U : List ℕ} → ((u : S) → Represents p u → Derives body (input text w) g u none → ⊥) → Reads g text w p T q U → (p .status ≡ FAILED → ⊥) → q .status ≡ FAILED → ⊥
   never-failed never (still n e f) h o = h (status-as (sym e) o)
-  never-failed {g} {p} {q} {T} {U} never (reads z l) h o = let (s, v) = some p in go s (l s v)
+  never-failed {g} {p} {q} {T} {U} never (reads z l) h o = let (s, v) = some p in go s v (l s v)
     where
-      go : (s : S) → Result g text w p s T q U → ⊥
-      go s (matched t z n v c f) = clash 0 1 z o (omega arith)
-      go s (failed z c f) = never s (c .derived)
-      go s (exceeded z c) = clash 2 1 z o (omega arith)
+      go : (s : S) → Represents p s → Result g text w p s T q U → ⊥
+      go s v (matched t z n v′ c f) = clash 0 1 z o (omega arith)
+      go s v (failed z c f) = never s v (c .derived)
+      go s v (exceeded z c) = clash 2 1 z o (omega arith)
 
   pub fine : {g : G} {p q : Cursor} {T U : List ℕ} → Reads (many g) text w p T q U → (p .status ≡ FAILED → ⊥) → q .status ≡ FAILED → ⊥
-  fine = never-failed many-never
+  fine = never-failed (λ u v. many-never u)
 
   -- a rule: gone into, read, and gone out of
   ruled-by : (r : R) {p e y : Cursor} {n : ℕ} {T U : List ℕ} → Upto (LIMIT + 1) n (p .nest + nests r) → p .status ≡ READING → Reads (body r) text w (begun (p .at) (p .count) n) T e U → Left p e y
@@ -212,10 +217,8 @@ module _ {text w : List ℕ} where
   -- ---- by the next token
   -- the first alternative alone, where the second cannot begin so
   pub only : {k j : ℕ} {g h : G} {p q : Cursor} {T U : List ℕ} → k ≡ tokenAt w (p .at) .kind → k ≡ j → Yes (absent? j (firsts h) && (not (empties h) && sane? solid h)) → Reads g text w p T q U → Reads (g or h) text w p T q U
-  only {j = j} {h = h} e f y u =
-      let b = and-l (absent? j (firsts h)) _ y in
-      let c = and-r (absent? j (firsts h)) _ y in
-      turned (λ s v. record { matches = λ z t d. attempt-or-first d; fails = λ z d. attempt-or-else d (missed text w (sym f ∙ e) (absent-of j (firsts h) b) c v); exceeds = exceeds-or-left }) u
+  only {h = h} e f y =
+      turned (λ s v. record { matches = λ z t d. attempt-or-first d; fails = λ z d. attempt-or-else d (missed-at text w {g = h} e f y v); exceeds = exceeds-or-left })
 
   -- the second alone, where the first cannot
   pub pass : {k : ℕ} {g h : G} {p q : Cursor} {T U : List ℕ} → k ≡ tokenAt w (p .at) .kind → Absent k (firsts g) → Yes (not (empties g) && sane? solid g) → Reads h text w p T q U → Reads (g or h) text w p T q U
@@ -223,16 +226,10 @@ module _ {text w : List ℕ} where
 
   -- what is read of two alternatives is of one alone, where the other cannot begin so
   pub without-second : {k j : ℕ} {g h : G} {p q : Cursor} {T U : List ℕ} → k ≡ tokenAt w (p .at) .kind → k ≡ j → Yes (absent? j (firsts h) && (not (empties h) && sane? solid h)) → Reads (g or h) text w p T q U → Reads g text w p T q U
-  without-second {j = j} {h = h} e f y =
-      turned (λ s v.
-      let c = missed text w (sym f ∙ e) (absent-of j (firsts h) (and-l (absent? j (firsts h)) _ y)) (and-r (absent? j (firsts h)) _ y) v in
-      becomes (λ o d. attempt-first c d) (exceeds-first c))
+  without-second {h = h} e f y = turned (λ s v. let c = missed-at text w {g = h} e f y v in becomes (λ o d. attempt-first c d) (exceeds-first c))
 
   pub without-first : {k j : ℕ} {g h : G} {p q : Cursor} {T U : List ℕ} → k ≡ tokenAt w (p .at) .kind → k ≡ j → Yes (absent? j (firsts g) && (not (empties g) && sane? solid g)) → Reads (g or h) text w p T q U → Reads h text w p T q U
-  without-first {j = j} {g = g} e f y =
-      turned (λ s v.
-      let c = missed text w (sym f ∙ e) (absent-of j (firsts g) (and-l (absent? j (firsts g)) _ y)) (and-r (absent? j (firsts g)) _ y) v in
-      becomes (λ o d. attempt-second c d) (exceeds-second c))
+  without-first {g = g} e f y = turned (λ s v. let c = missed-at text w {g = g} e f y v in becomes (λ o d. attempt-second c d) (exceeds-second c))
 
   -- no round, where it cannot begin so
   pub many-miss : {k : ℕ} {g : G} {p : Cursor} {T : List ℕ} → k ≡ tokenAt w (p .at) .kind → Absent k (firsts g) → Yes (not (empties g) && sane? solid g) → Reads (many g) text w p T p T

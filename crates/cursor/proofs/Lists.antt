@@ -16,9 +16,9 @@ use Rattle.grammar.proofs.Unique.{unique, apart}
 use Rattle.grammar.proofs.Progress.{sane?}
 use Rattle.grammar.proofs.Whole.{solid}
 use Rattle.cursor.specs.Entries.{input}
-use Rattle.cursor.specs.Read.{READING, FAILED, Represents, Result, matched, failed, exceeded, Reads, still, reads, Step}
+use Rattle.cursor.specs.Read.{READING, FAILED, Reads, still, Step}
 use Rattle.cursor.specs.declared.Cursor.{Cursor}
-use Rattle.cursor.proofs.Laws.{clash, status-as, some, idle, nothing, _then_, first, absent, pass, many-miss, fine, opt-never, never-failed, one-step}
+use Rattle.cursor.proofs.Laws.{clash, status-as, idle, nothing, _then_, first, absent, pass, many-miss, fine, opt-never, never-failed, one-step}
 use Rattle.cursor.proofs.Falls.{Ahead, on, on-step, _and-on_, at-here, was, weaken}
 use Rattle.cursor.proofs.Loops.{Looping, rounds-begin, rounds-next, rounds-end, rounds-miss, rounds-off}
 
@@ -42,19 +42,13 @@ module _ {text w : List ℕ} where
   -- ---- a trailing comma is allowed
   -- the first, the others, and a comma or none, of which only the first can fail
   list-of : {g : G} {p q r e : Cursor} {T U W : List ℕ} → Reads g text w p T q U → (q .status ≡ FAILED → ⊥) → Reads (many (another g)) text w q U r W → Reads (opt (tok COMMA)) text w r W e W → Reads (list g) text w p T e W
-  list-of y n m d = first (y then m then d) (never-failed opt-never d (fine m n))
+  list-of y n m d = first (y then m then d) (never-failed (λ u v. opt-never u) d (fine m n))
 
   no-comma : {k : ℕ} {p : Cursor} {T : List ℕ} → k ≡ tokenAt w (p .at) .kind → (k ≡ COMMA → ⊥) → Reads (opt (tok COMMA)) text w p T p T
   no-comma e f = pass {g = tok COMMA} e (f, tt) tt nothing
 
-  comma-taken : {k : ℕ} {p q : Cursor} {T : List ℕ} → k ≡ tokenAt w (p .at) .kind → k ≡ COMMA → (p .status ≡ FAILED → ⊥) → Reads (tok COMMA) text w p T q T → q .status ≡ FAILED → ⊥
-  comma-taken e f n (still m i j) o = n (status-as (sym i) o)
-  comma-taken {p = p} {q} {T} e f n (reads z l) o = let (s, v) = some p in go s v (l s v)
-    where
-      go : (s : S) → Represents p s → Result (tok COMMA) text w p s T q T → ⊥
-      go s v (matched t z′ n v′ c h) = clash 0 1 z′ o (omega arith)
-      go s v (failed z′ c h) = there {x = input text w} (rw (← v .at, tokens-at) (sym e ∙ f)) (c .derived)
-      go s v (exceeded z′ c) = clash 2 1 z′ o (omega arith)
+  comma-taken : {k : ℕ} {p q : Cursor} {T : List ℕ} → k ≡ tokenAt w (p .at) .kind → k ≡ COMMA → Reads (tok COMMA) text w p T q T → (p .status ≡ FAILED → ⊥) → q .status ≡ FAILED → ⊥
+  comma-taken e f = never-failed (λ u v. there {x = input text w} (rw (← v .at, tokens-at) (sym e ∙ f)))
 
   pub listing-begin : {g : G} {p : Cursor} {T : List ℕ} → Listing text w g p T p T
   listing-begin = record { so-far = none-yet refl refl; on = at-here; kept = refl }
@@ -66,8 +60,8 @@ module _ {text w : List ℕ} where
       record { so-far = go (L .so-far) y; on = weaken (L .on and-on on y and-on on-step c); kept = h ∙ L .kept }
     where
       go : SoFar text w g p₀ T₀ p T → Reads g text w p T q U → SoFar text w g p₀ T₀ r U
-      go (none-yet i j) y = past-comma (rw (i, j) at y) n rounds-begin c (comma-taken {T = U} e f n (one-step c))
-      go (past-comma y₀ n₀ L₀ c₀ m) y = past-comma y₀ n₀ (rounds-next L₀ (one-step c₀ then y) n (h ∙ L₀ .kept)) c (comma-taken {T = U} e f n (one-step c))
+      go (none-yet i j) y = past-comma (rw (i, j) at y) n rounds-begin c (comma-taken {T = U} e f (one-step c) n)
+      go (past-comma y₀ n₀ L₀ c₀ m) y = past-comma y₀ n₀ (rounds-next L₀ (one-step c₀ then y) n (h ∙ L₀ .kept)) c (comma-taken {T = U} e f (one-step c) n)
 
   -- the next fails
   pub listing-none : {g : G} {p₀ p q : Cursor} {T₀ T U : List ℕ} → Listing text w g p₀ T₀ p T → p .status ≡ READING → Reads g text w p T q U → q .status ≡ FAILED → Reads (list g) text w p₀ T₀ p U

@@ -90,7 +90,7 @@ module _ {x : Input} where
 -- ---- readers of them
 module _ {text w : List ℕ} where
   pub regroup : {g h k : G} {p q : Cursor} {T U : List ℕ} → Reads ((g or h) or k) text w p T q U → Reads (g or (h or k)) text w p T q U
-  regroup = turned (λ s v. becomes (λ o c. attempt-assoc (choice c)) (exceeds-by (λ i m. takes-assoc)))
+  regroup = turned (λ s v. becomes (λ o c. attempt-assoc (choice c)) (exceeds-by (λ i m l. takes-assoc)))
 
   -- two alternatives that begin alike: that part is read once
   pub share : {a h k : G} {p q r : Cursor} {T U W : List ℕ} → Reads a text w p T q U → Reads (h or k) text w q U r W → Reads ((a & h) or (a & k)) text w p T r W
@@ -99,7 +99,7 @@ module _ {text w : List ℕ} where
         fails = λ z s c. attempt-or-else (attempt-and-not c) (attempt-and-not c);
         exceeds = λ s c. exceeds-or-left (exceeds-and-left c);
         joins = λ s t o c d. attempt-share c (choice d);
-        over = λ s t c. exceeds-by (λ i m. takes-share (c .derived));
+        over = λ s t c. exceeds-by (λ i m l. takes-share (c .derived));
       })
 
   -- the second may also do without it
@@ -110,7 +110,7 @@ module _ {text w : List ℕ} where
         fails = λ z s c. absurd (f z);
         exceeds = λ s c. exceeds-or-left (exceeds-and-left c);
         joins = λ s t o c d. attempt-element never c (choice d);
-        over = λ s t c. exceeds-by (λ i m. takes-element (c .derived));
+        over = λ s t c. exceeds-by (λ i m l. takes-element (c .derived));
       }) y
 
   pub no-element : {a h k l : G} {p q r : Cursor} {T U W : List ℕ} → Reads a text w p T q U → q .status ≡ FAILED → Reads l text w p U r W

@@ -135,7 +135,7 @@ module _ {x : Input} {k : ℕ} {a b : Act} {n : ℕ} {s : S} where
       go false o = sym z
 
   exceeds-too : Exceeds x (step (take k a)) n s → Exceeds x (step (take k b)) n s
-  exceeds-too = exceeds-by (λ i m t. elim t [ here h h′ h″ ↦ here h h′ h″ ])
+  exceeds-too = exceeds-by (λ i m l t. elim t [ here h h′ h″ ↦ here h h′ h″ ])
 
 module _ {text w : List ℕ} {k : ℕ} {a b : Act} {p : Cursor} where
   -- b is a, but for the literals with an unknown suffix
