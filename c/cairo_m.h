@@ -89,13 +89,14 @@ typedef struct cairo_m_token {
     uint8_t suffix; // enum cairo_m_suffix, 0 but for a LiteralNumber
     uint16_t start;
     uint16_t end;
-    uint16_t zero;
+    uint8_t base; // 2, 8, 10 or 16 for a LiteralNumber, else 0
+    uint8_t zero;
     uint64_t value; // a LiteralNumber's, else 0
 } cairo_m_token;
 
 typedef struct cairo_m_node {
-    uint8_t kind; // enum cairo_m_node_kind
-    uint8_t zero;
+    uint8_t kind;   // enum cairo_m_node_kind
+    uint8_t base;   // 2, 8, 10 or 16 for a Count, Literal, LiteralFelt or LiteralU32, as its numeral is written, else 0
     uint16_t start; // Param, PatternTuple and the type of a function that names none have 0..0
     uint16_t end;
     uint16_t children; // how many; they stand before the node, the last right before it, each after its own children
@@ -121,11 +122,12 @@ CAIRO_M_ASSERT(offsetof(cairo_m_token, kind) == 0);
 CAIRO_M_ASSERT(offsetof(cairo_m_token, suffix) == 1);
 CAIRO_M_ASSERT(offsetof(cairo_m_token, start) == 2);
 CAIRO_M_ASSERT(offsetof(cairo_m_token, end) == 4);
-CAIRO_M_ASSERT(offsetof(cairo_m_token, zero) == 6);
+CAIRO_M_ASSERT(offsetof(cairo_m_token, base) == 6);
+CAIRO_M_ASSERT(offsetof(cairo_m_token, zero) == 7);
 CAIRO_M_ASSERT(offsetof(cairo_m_token, value) == 8);
 CAIRO_M_ASSERT(sizeof(cairo_m_node) == 16);
 CAIRO_M_ASSERT(offsetof(cairo_m_node, kind) == 0);
-CAIRO_M_ASSERT(offsetof(cairo_m_node, zero) == 1);
+CAIRO_M_ASSERT(offsetof(cairo_m_node, base) == 1);
 CAIRO_M_ASSERT(offsetof(cairo_m_node, start) == 2);
 CAIRO_M_ASSERT(offsetof(cairo_m_node, end) == 4);
 CAIRO_M_ASSERT(offsetof(cairo_m_node, children) == 6);
@@ -281,9 +283,9 @@ enum cairo_m_binary {
 //
 // Sizes of tables and of `out` are in bytes; `list_length` counts records.
 
-// What the spelling of a numeral says. The outcome is 0, or 1, 9 or 3. Refused, value and suffix are 0; the reason is 2 or 3 with
-// outcome 3, else 0.
-uint32_t cairo_m_numeral(const void *spelling, size_t length, uint64_t *value, uint8_t *suffix, uint8_t *reason);
+// What the spelling of a numeral says. The outcome is 0, or 1, 9 or 3. The base is 16, 8 or 2 where the spelling begins with 0x, 0o
+// or 0b, in either case of the letter, else 10. Refused, value, suffix and base are 0; the reason is 2 or 3 with outcome 3, else 0.
+uint32_t cairo_m_numeral(const void *spelling, size_t length, uint64_t *value, uint8_t *suffix, uint8_t *base, uint8_t *reason);
 
 // The tokens of a text. The outcome is 0, 1, 2, 3 or 4.
 // The token table has the tokens with outcome 0, else it is all zero; the token count is that of all tokens with outcomes 0 and 4,
@@ -308,9 +310,10 @@ uint32_t cairo_m_read(const void *text, size_t length, void *tokens, size_t toke
 // kind than Name, Named and Identifier, and for a span that is not within the text.
 size_t cairo_m_spelling(const void *text, size_t length, uint8_t kind, uint16_t start, uint16_t end);
 
-// The listing of a tree: RFC 8259 JSON without spaces, as [["Name",6,7,0,0],["Literal",10,11,0,1],["Const",0,12,2,0]], without a line
-// feed. Every whole entry is listed, so lend just node_count * sizeof(cairo_m_node) bytes. The outcome is 0, 11 or 10. `size` is the
-// length of the text with outcome 0, else 0; `out` is zero after the text, and all zero when refused.
+// The listing of a tree: RFC 8259 JSON without spaces, as [["Name",6,7,0,0],["Literal",10,11,0,1,10],["Const",0,12,2,0]], without a
+// line feed: kind, start, end, children and value of every whole entry, so lend just node_count * sizeof(cairo_m_node) bytes; and the
+// base, whatever it is, of a Count, Literal, LiteralFelt or LiteralU32. The outcome is 0, 11 or 10. `size` is the length of the text
+// with outcome 0, else 0; `out` is zero after the text, and all zero when refused.
 uint32_t cairo_m_list(const void *nodes, size_t nodes_size, void *out, size_t out_size, size_t *size);
 
 // The listing of a refusal, as {"refused":3,"diagnostics":[[0,1,1]]}: start, end and reason of every whole entry. The outcome is 0
@@ -319,9 +322,9 @@ uint32_t cairo_m_list_refused(uint32_t outcome, const void *diagnostics, size_t 
                               size_t *size);
 
 // Room that a listing of so many entries never goes past. The longest rows are
-// ["StructLiteral",65535,65535,65535,18446744073709551615] and [65535,65535,255], with a comma 57 and 18 bytes; the rest is [] and
+// ["LiteralFelt",65535,65535,65535,18446744073709551615,255] and [65535,65535,255], with a comma 59 and 18 bytes; the rest is [] and
 // {"refused":4294967295,"diagnostics":[]}.
-#define CAIRO_M_LIST_BOUND(node_count) ((size_t)57 * (node_count) + 2)
+#define CAIRO_M_LIST_BOUND(node_count) ((size_t)59 * (node_count) + 2)
 #define CAIRO_M_LIST_REFUSED_BOUND(diagnostic_count) ((size_t)18 * (diagnostic_count) + 39)
 
 #ifdef __cplusplus

@@ -195,14 +195,16 @@ static void print_node(const struct reading *r, const cairo_m_node *n) {
         break;
     case CAIRO_M_NODE_COUNT:
     case CAIRO_M_NODE_LITERAL:
-    case CAIRO_M_NODE_TUPLE_INDEX:
-        printf(" %llu", value);
+        printf(" %llu base %u", value, n->base);
         break;
     case CAIRO_M_NODE_LITERAL_FELT:
-        printf(" %llu felt", value);
+        printf(" %llu felt base %u", value, n->base);
         break;
     case CAIRO_M_NODE_LITERAL_U32:
-        printf(" %llu u32", value);
+        printf(" %llu u32 base %u", value, n->base);
+        break;
+    case CAIRO_M_NODE_TUPLE_INDEX:
+        printf(" %llu", value);
         break;
     case CAIRO_M_NODE_BOOL:
         fputs(value == 0 ? " false" : " true", stdout);

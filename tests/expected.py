@@ -72,12 +72,15 @@ def char_len(text):
     return 0
 
 
+def base_of(spelling):
+    """The base that a leading 0x, 0o or 0b sets, in either case of the letter, else 10."""
+    return {"0x": 16, "0o": 8, "0b": 2}.get(spelling[:2].lower(), 10)
+
+
 def parse_numeral(spelling):
-    """(value, suffix, 0), or (0, 0, reason)."""
-    rest, base = spelling, 10
-    for letter, other in (("x", 16), ("o", 8), ("b", 2)):
-        if spelling[:2].lower() == "0" + letter:
-            rest, base = spelling[2:], other
+    """(value, suffix, base, 0), or (0, 0, 0, reason)."""
+    base = base_of(spelling)
+    rest = spelling if base == 10 else spelling[2:]
     digits = "0123456789abcdef"[:base]
     cuts = []
     for word in ("felt", "u32"):
@@ -90,25 +93,25 @@ def parse_numeral(spelling):
     cut = min(cuts)
     number, suffix = rest[:cut], rest[cut:]
     if number == "" or suffix[:1].isdigit():
-        return 0, 0, FORMAT
+        return 0, 0, 0, FORMAT
     value = 0
     for letter in number:
         if letter.lower() not in digits:
-            return 0, 0, FORMAT
+            return 0, 0, 0, FORMAT
         value = value * base + digits.index(letter.lower())
         if value > LARGEST_VALUE:
-            return 0, 0, OVERFLOW
-    return value, {"": 0, "felt": 1, "u32": 2}.get(suffix, 3), 0
+            return 0, 0, 0, OVERFLOW
+    return value, {"": 0, "felt": 1, "u32": 2}.get(suffix, 3), base, 0
 
 
 def numeral_entry(spelling):
-    """(outcome, value, suffix, reason) of the numeral entry."""
+    """(outcome, value, suffix, base, reason) of the numeral entry."""
     if len(spelling) > LONGEST_TEXT:
-        return LONG, 0, 0, 0
+        return LONG, 0, 0, 0, 0
     if not any(pattern.fullmatch(spelling) for kind, pattern in PATTERNS if kind == "LiteralNumber"):
-        return SPELLING, 0, 0, 0
-    value, suffix, reason = parse_numeral(spelling.decode("ascii"))
-    return (LEXICAL if reason else ACCEPTED), value, suffix, reason
+        return SPELLING, 0, 0, 0, 0
+    value, suffix, base, reason = parse_numeral(spelling.decode("ascii"))
+    return (LEXICAL if reason else ACCEPTED), value, suffix, base, reason
 
 
 def longest_match(text, at):
@@ -122,7 +125,7 @@ def longest_match(text, at):
 
 
 def lex_all(text):
-    """Every token (kind, suffix, start, end, value) and every lexical error (start, end, reason) of a UTF-8 text."""
+    """Every token (kind, suffix, start, end, value, base) and every lexical error (start, end, reason) of a UTF-8 text."""
     tokens, errors = [], []
     at = 0
     while at < len(text):
@@ -131,13 +134,13 @@ def lex_all(text):
         if length == 0:
             errors.append((at, end, CHARACTER))
         elif kind == "LiteralNumber":
-            value, suffix, reason = parse_numeral(text[at:end].decode("ascii"))
+            value, suffix, base, reason = parse_numeral(text[at:end].decode("ascii"))
             if reason:
                 errors.append((at, end, reason))
             else:
-                tokens.append((KIND_NUMBER[kind], suffix, at, end, value))
+                tokens.append((KIND_NUMBER[kind], suffix, at, end, value, base))
         elif kind is not None:
-            tokens.append((KIND_NUMBER[kind], 0, at, end, 0))
+            tokens.append((KIND_NUMBER[kind], 0, at, end, 0, 0))
         at = end
     return tokens, errors
 
@@ -160,7 +163,7 @@ def json_line(text):
     """The line that cairolex owes for a text, with 1,024 token and diagnostic entries."""
     outcome, _, _, tokens, errors = lex_entry(text, 1024 * 16, 1024 * 8)
     if outcome == ACCEPTED:
-        rows = [f'["{KINDS[kind - 1]}",{start},{end},{suffix},{value}]' for kind, suffix, start, end, value in tokens]
+        rows = [f'["{KINDS[kind - 1]}",{start},{end},{suffix},{value},{base}]' for kind, suffix, start, end, value, base in tokens]
         return "[" + ",".join(rows) + "]\n"
     rows = [f"[{start},{end},{reason}]" for start, end, reason in errors]
     return f'{{"refused":{outcome},"diagnostics":[{",".join(rows)}]}}\n'
@@ -199,11 +202,11 @@ class Cases:
         self.line(f"u {spelled(text)}", f"u {int(is_utf8(text))} {char_len(text)}")
 
     def numeral(self, spelling):
-        outcome, value, suffix, reason = numeral_entry(spelling)
+        outcome, value, suffix, base, reason = numeral_entry(spelling)
         answer = {
-            ACCEPTED: f"number {value} {suffix}", LONG: "long", SPELLING: "spelling", LEXICAL: f"lexical {reason}",
+            ACCEPTED: f"number {value} {suffix} {base}", LONG: "long", SPELLING: "spelling", LEXICAL: f"lexical {reason}",
         }[outcome]
-        self.line(f"n {spelled(spelling)}", f"n {outcome} {value} {suffix} {reason} {answer}")
+        self.line(f"n {spelled(spelling)}", f"n {outcome} {value} {suffix} {base} {reason} {answer}")
 
     def lex(self, text, token_bytes=TOKEN_BYTES, diagnostic_bytes=DIAGNOSTIC_BYTES):
         outcome, token_count, error_count, tokens, errors = lex_entry(text, token_bytes, diagnostic_bytes)
@@ -233,14 +236,17 @@ class Chance:
         return choices[self.below(len(choices))]
 
 
-# The numerals that 01 names, and further readings of its rule, each with the value, suffix and reason found by hand.
+# The numerals that 01 names, and further readings of its rule, each with the value, suffix, base and reason found by hand.
 STATED_NUMERALS = {
-    "0x1felt": (1, 1, 0), "0b12": (0, 0, FORMAT), "0x": (0, 0, FORMAT), "12u32x": (0, 0, FORMAT),
-    "18446744073709551615": (LARGEST_VALUE, 0, 0), "18446744073709551616": (0, 0, OVERFLOW),
-    "99999999999999999999felt2": (0, 0, OVERFLOW), "1felt2": (0, 0, FORMAT), "12u8": (12, 3, 0), "3u32": (3, 2, 0),
-    "1x": (1, 3, 0), "0_felt": (0, 0, FORMAT), "0_x": (0, 3, 0), "1_0": (1, 3, 0), "0b2": (0, 0, FORMAT),
-    "1_u32": (0, 0, FORMAT), "12u32felt": (0, 0, FORMAT), "1u32u32": (0, 0, FORMAT), "0xfelt": (0, 0, FORMAT),
-    "99999999999999999999x": (0, 0, OVERFLOW),
+    "0x1felt": (1, 1, 16, 0), "0b12": (0, 0, 0, FORMAT), "0x": (0, 0, 0, FORMAT), "12u32x": (0, 0, 0, FORMAT),
+    "18446744073709551615": (LARGEST_VALUE, 0, 10, 0), "18446744073709551616": (0, 0, 0, OVERFLOW),
+    "99999999999999999999felt2": (0, 0, 0, OVERFLOW), "1felt2": (0, 0, 0, FORMAT), "12u8": (12, 3, 10, 0), "3u32": (3, 2, 10, 0),
+    "1x": (1, 3, 10, 0), "0_felt": (0, 0, 0, FORMAT), "0_x": (0, 3, 10, 0), "1_0": (1, 3, 10, 0), "0b2": (0, 0, 0, FORMAT),
+    "1_u32": (0, 0, 0, FORMAT), "12u32felt": (0, 0, 0, FORMAT), "1u32u32": (0, 0, 0, FORMAT), "0xfelt": (0, 0, 0, FORMAT),
+    "99999999999999999999x": (0, 0, 0, OVERFLOW), "0": (0, 0, 10, 0), "0b101": (5, 0, 2, 0), "0B1": (1, 0, 2, 0), "0o17": (15, 0, 8, 0),
+    "0O7felt": (7, 1, 8, 0), "0x10u32": (16, 2, 16, 0), "0XfF": (255, 0, 16, 0), "0xb1": (177, 0, 16, 0), "0b1b": (1, 3, 2, 0),
+    "0o1x1": (1, 3, 8, 0), "00x1": (0, 3, 10, 0), "10b1": (10, 3, 10, 0), "0u32": (0, 2, 10, 0), "0B2": (0, 0, 0, FORMAT),
+    "0O8": (0, 0, 0, FORMAT), "0Xg": (0, 0, 0, FORMAT), "0x10000000000000000": (0, 0, 0, OVERFLOW),
 }
 
 FURTHER_NUMERALS = """
@@ -429,6 +435,17 @@ def all_cases():
         cases.numeral(spelling.encode())
         cases.lex(b"a " + spelling.encode() + b".")
 
+    cases.section("every base in both cases of its letter, with every suffix")
+    for prefix in ("", "0x", "0X", "0o", "0O", "0b", "0B"):
+        for digits in ("0", "1", "10", "2", "7", "8", "9", "f", "F", "g"):
+            for suffix in ("", "felt", "u32", "x", "_8"):
+                cases.numeral((prefix + digits + suffix).encode())
+    for letters in ("xob", "XOB"):
+        numerals = ["1"] + [f"0{letter}1" for letter in letters]
+        for suffix in ("", "felt", "u32", "x"):
+            cases.lex(" ".join(numeral + suffix for numeral in numerals).encode())
+            cases.lex(f"[a; {numerals[1]}{suffix}] == t.{numerals[2]}{suffix} && true != {numerals[3]}{suffix}".encode())
+
     cases.section("spellings of no numeral")
     for spelling in (b"", b"a", b"_", b"_1", b"x1", b" 1", b"1 ", b"1.", b"-1", b"+1", b"1\n", b"1\x00", b"1\xc3\xa9", b"\xff", b"1felt ",
                      b"1-felt", b"0x1.", b"\xd9\xa1", b"1\xd9\xa1", b"0x\xef\xbc\x91", b"1/", b"1:", b"1@", b"1[", b"1`", b"1{", b"/1", b":1"):
@@ -507,11 +524,11 @@ def all_cases():
 
 
 def cairolex_text():
-    """The text that cairolex is run on: every kind of token, both suffixes and another, the largest value."""
+    """The text that cairolex is run on: every kind of token, both suffixes and another, every base, the largest value."""
     words = " ".join(word for _, word in KEYWORDS)
     marks = " ".join(mark for _, mark in MARKS)
     example = (ROOT / "examples" / "fibonacci.cm").read_bytes()
-    return example + f"{words}\n{marks}\n0 0x1felt 12u32 12u8 18446744073709551615 // \u00e9 \u20ac\n_end".encode()
+    return example + f"{words}\n{marks}\n0 0x1felt 12u32 12u8 18446744073709551615 0b101 0O17 0XfFu32 // \u00e9 \u20ac\n_end".encode()
 
 
 def files():

@@ -23,10 +23,14 @@ StructLiteral Tuple TupleIndex Array ArrayRepeat Cast New Paren PatternTuple Let
 While For Break Continue Param Function StructDef UseSingle UseList
 """.split()
 
+# The kinds that carry the base of their numeral; every other node has 0 for it.
+BASED = ("Count", "Literal", "LiteralFelt", "LiteralU32")
+
 # ---- trees written by hand
 #
-# A line at the margin is a text. The lines under it are its nodes: kind, start, end, number of children, value, and then, for
-# the eye, the part of the text that the span has. A span of 0..0 has none. Offsets are those of the whole text:
+# A line at the margin is a text. The lines under it are its nodes: kind, start, end, number of children, value, the base where the
+# kind carries one, and then, for the eye, the part of the text that the span has. A span of 0..0 has none. Offsets are those of the
+# whole text:
 #   items    the text as it stands
 #   values   `const A = TEXT;`, so that TEXT begins at 10
 #   types    `const A: TEXT = 1;`, so that TEXT begins at 9
@@ -36,7 +40,7 @@ While For Break Continue Param Function StructDef UseSingle UseList
 NAMED_ITEMS = """
 const A = 1;
     Name 6 7 0 0                    A
-    Literal 10 11 0 1               1
+    Literal 10 11 0 1 10            1
     Const 0 12 2 0                  const A = 1;
 const A = f( );
     Name 6 7 0 0                    A
@@ -47,9 +51,9 @@ const A = f( );
 
 NAMED_VALUES = """
 0x1felt
-    LiteralFelt 10 17 0 1           0x1felt
+    LiteralFelt 10 17 0 1 16        0x1felt
 18446744073709551615
-    Literal 10 30 0 18446744073709551615 18446744073709551615
+    Literal 10 30 0 18446744073709551615 10 18446744073709551615
 """
 
 NAMED_BODIES = """
@@ -65,12 +69,12 @@ a || b && c;
     Binary 9 20 2 11                a || b && c
     ExprStmt 9 21 1 0               a || b && c;
 12u8;
-    Literal 9 13 0 12               12u8
+    Literal 9 13 0 12 10            12u8
     ExprStmt 9 14 1 0               12u8;
 if a [12u8, 1];
     Identifier 12 13 0 0            a
-    Literal 15 19 0 12              12u8
-    Literal 21 22 0 1               1
+    Literal 15 19 0 12 10           12u8
+    Literal 21 22 0 1 10            1
     Array 14 23 2 0                 [12u8, 1]
     ExprStmt 14 24 1 0              [12u8, 1];
     If 9 24 2 0                     if a [12u8, 1];
@@ -157,40 +161,51 @@ T * *
     TypeTuple 9 22 2 0              (A*, (B, ()))
 [T; 3]
     Named 10 11 0 3                 T
-    Count 13 14 0 3                 3
+    Count 13 14 0 3 10              3
     FixedArray 9 15 2 0             [T; 3]
 [[u32; 2]; 0x10]
     Named 11 14 0 2                 u32
-    Count 16 17 0 2                 2
+    Count 16 17 0 2 10              2
     FixedArray 10 18 2 0            [u32; 2]
-    Count 20 24 0 16                0x10
+    Count 20 24 0 16 16             0x10
     FixedArray 9 25 2 0             [[u32; 2]; 0x10]
 [T; 3]*
     Named 10 11 0 3                 T
-    Count 13 14 0 3                 3
+    Count 13 14 0 3 10              3
     FixedArray 9 15 2 0             [T; 3]
     Pointer 9 16 1 0                [T; 3]*
 [(T,)*; 1]
     Named 11 12 0 3                 T
     TypeTuple 10 14 1 0             (T,)
     Pointer 10 15 1 0               (T,)*
-    Count 17 18 0 1                 1
+    Count 17 18 0 1 10              1
     FixedArray 9 19 2 0             [(T,)*; 1]
 ([T; 1])*
     Named 11 12 0 3                 T
-    Count 14 15 0 1                 1
+    Count 14 15 0 1 10              1
     FixedArray 10 16 2 0            [T; 1]
     Pointer 10 18 1 0               [T; 1])*
 [bool; 18446744073709551615]
     Named 10 14 0 1                 bool
-    Count 16 36 0 18446744073709551615 18446744073709551615
+    Count 16 36 0 18446744073709551615 10 18446744073709551615
     FixedArray 9 37 2 0             [bool; 18446744073709551615]
+[felt; 0x3]
+    Named 10 14 0 0                 felt
+    Count 16 19 0 3 16              0x3
+    FixedArray 9 20 2 0             [felt; 0x3]
+[[T; 0B11]; 0O17]
+    Named 11 12 0 3                 T
+    Count 14 18 0 3 2               0B11
+    FixedArray 10 19 2 0            [T; 0B11]
+    Count 21 25 0 15 8              0O17
+    FixedArray 9 26 2 0             [[T; 0B11]; 0O17]
 """
 
 REFUSED_TYPES = """
 [T; 3u32]
 [T; 3felt]
 [T; 3u8]
+[T; 0x3u32]
 [T; (3)]
 [T; 3 + 1]
 [T; -3]
@@ -228,29 +243,29 @@ new T[n]
 new felt*[1]
     Named 14 18 0 0                 felt
     Pointer 14 19 1 0               felt*
-    Literal 20 21 0 1               1
+    Literal 20 21 0 1 10            1
     New 10 22 2 0                   new felt*[1]
 new (T)[1]
     Named 15 16 0 3                 T
-    Literal 18 19 0 1               1
+    Literal 18 19 0 1 10            1
     New 10 20 2 0                   new (T)[1]
 new (T)*[1]
     Named 15 16 0 3                 T
     Pointer 15 18 1 0               T)*
-    Literal 19 20 0 1               1
+    Literal 19 20 0 1 10            1
     New 10 21 2 0                   new (T)*[1]
 new (T,)[1]
     Named 15 16 0 3                 T
     TypeTuple 14 18 1 0             (T,)
-    Literal 19 20 0 1               1
+    Literal 19 20 0 1 10            1
     New 10 21 2 0                   new (T,)[1]
 new ()[1]
     TypeTuple 14 16 0 0             ()
-    Literal 17 18 0 1               1
+    Literal 17 18 0 1 10            1
     New 10 19 2 0                   new ()[1]
 new (,)[1]
     TypeTuple 14 17 0 0             (,)
-    Literal 18 19 0 1               1
+    Literal 18 19 0 1 10            1
     New 10 20 2 0                   new (,)[1]
 new (A, (B)*)[n][0]
     Named 15 16 0 3                 A
@@ -259,7 +274,7 @@ new (A, (B)*)[n][0]
     TypeTuple 14 23 2 0             (A, (B)*)
     Identifier 24 25 0 0            n
     New 10 26 2 0                   new (A, (B)*)[n]
-    Literal 27 28 0 0               0
+    Literal 27 28 0 0 10            0
     Index 10 28 2 0                 new (A, (B)*)[n][0
 new (u32, T,)[f(a)].x
     Named 15 18 0 2                 u32
@@ -273,10 +288,14 @@ new (u32, T,)[f(a)].x
     Member 10 31 2 0                new (u32, T,)[f(a)].x
 new bool[1] as felt
     Named 14 18 0 1                 bool
-    Literal 19 20 0 1               1
+    Literal 19 20 0 1 10            1
     New 10 21 2 0                   new bool[1]
     Named 25 29 0 0                 felt
     Cast 10 29 2 0                  new bool[1] as felt
+new T[0b1]
+    Named 14 15 0 3                 T
+    Literal 16 19 0 1 2             0b1
+    New 10 20 2 0                   new T[0b1]
 """
 
 REFUSED_ALLOCATIONS = """
@@ -349,29 +368,49 @@ a as T()
 
 LITERALS = """
 0
-    Literal 10 11 0 0               0
+    Literal 10 11 0 0 10            0
 007
-    Literal 10 13 0 7               007
+    Literal 10 13 0 7 10            007
 42felt
-    LiteralFelt 10 16 0 42          42felt
+    LiteralFelt 10 16 0 42 10       42felt
 42u32
-    LiteralU32 10 15 0 42           42u32
+    LiteralU32 10 15 0 42 10        42u32
 42u8
-    Literal 10 14 0 42              42u8
+    Literal 10 14 0 42 10           42u8
 1_0
-    Literal 10 13 0 1               1_0
+    Literal 10 13 0 1 10            1_0
 0xff
-    Literal 10 14 0 255             0xff
+    Literal 10 14 0 255 16          0xff
 0b101u32
-    LiteralU32 10 18 0 5            0b101u32
+    LiteralU32 10 18 0 5 2          0b101u32
 0o17felt
-    LiteralFelt 10 18 0 15          0o17felt
+    LiteralFelt 10 18 0 15 8        0o17felt
+0b101
+    Literal 10 15 0 5 2             0b101
+0o17
+    Literal 10 14 0 15 8            0o17
+0XfF
+    Literal 10 14 0 255 16          0XfF
+0B1
+    Literal 10 13 0 1 2             0B1
+0O7felt
+    LiteralFelt 10 17 0 7 8         0O7felt
+0x10u32
+    LiteralU32 10 17 0 16 16        0x10u32
+0Xbfelt
+    LiteralFelt 10 17 0 11 16       0Xbfelt
+0b1b
+    Literal 10 14 0 1 2             0b1b
+0_x
+    Literal 10 13 0 0 10            0_x
+00x1
+    Literal 10 14 0 0 10            00x1
 18446744073709551615felt
-    LiteralFelt 10 34 0 18446744073709551615 18446744073709551615felt
+    LiteralFelt 10 34 0 18446744073709551615 10 18446744073709551615felt
 18446744073709551615u32
-    LiteralU32 10 33 0 18446744073709551615 18446744073709551615u32
+    LiteralU32 10 33 0 18446744073709551615 10 18446744073709551615u32
 18446744073709551615x
-    Literal 10 31 0 18446744073709551615 18446744073709551615x
+    Literal 10 31 0 18446744073709551615 10 18446744073709551615x
 true
     Bool 10 14 0 1                  true
 false
@@ -394,11 +433,11 @@ PREFIXES = """
     Unary 11 13 1 1                 -x
     Unary 10 13 1 0                 !-x
 --1
-    Literal 12 13 0 1               1
+    Literal 12 13 0 1 10            1
     Unary 11 13 1 1                 -1
     Unary 10 13 1 1                 --1
 - ! - 1
-    Literal 16 17 0 1               1
+    Literal 16 17 0 1 10            1
     Unary 14 17 1 1                 - 1
     Unary 12 17 1 0                 ! - 1
     Unary 10 17 1 1                 - ! - 1
@@ -730,8 +769,8 @@ f{}()
     StructLiteral 10 13 1 0         f{}
     Call 10 15 1 0                  f{}()
 1(2)
-    Literal 10 11 0 1               1
-    Literal 12 13 0 2               2
+    Literal 10 11 0 1 10            1
+    Literal 12 13 0 2 10            2
     Call 10 13 2 0                  1(2
 true()
     Bool 10 14 0 1                  true
@@ -800,6 +839,17 @@ t.12
 t.0x1f
     Identifier 10 11 0 0            t
     TupleIndex 10 16 1 31           t.0x1f
+t.0x1
+    Identifier 10 11 0 0            t
+    TupleIndex 10 15 1 1            t.0x1
+t.0B10.0o7
+    Identifier 10 11 0 0            t
+    TupleIndex 10 16 1 2            t.0B10
+    TupleIndex 10 20 1 7            t.0B10.0o7
+a[0x1]
+    Identifier 10 11 0 0            a
+    Literal 12 15 0 1 16            0x1
+    Index 10 15 2 0                 a[0x1
 t.0.1
     Identifier 10 11 0 0            t
     TupleIndex 10 13 1 0            t.0
@@ -828,10 +878,10 @@ f( ).b
     Tuple 10 16 2 0                 (a, b)
     TupleIndex 10 18 1 0            (a, b).0
 [1, 2][0]
-    Literal 11 12 0 1               1
-    Literal 14 15 0 2               2
+    Literal 11 12 0 1 10            1
+    Literal 14 15 0 2 10            2
     Array 10 16 2 0                 [1, 2]
-    Literal 17 18 0 0               0
+    Literal 17 18 0 0 10            0
     Index 10 18 2 0                 [1, 2][0
 P {}.x
     Name 10 11 0 0                  P
@@ -839,7 +889,7 @@ P {}.x
     Name 15 16 0 0                  x
     Member 10 16 2 0                P {}.x
 1.a
-    Literal 10 11 0 1               1
+    Literal 10 11 0 1 10            1
     Name 12 13 0 0                  a
     Member 10 13 2 0                1.a
 """
@@ -848,6 +898,7 @@ REFUSED_PARTS = """
 t.0u32
 t.0felt
 t.0u8
+t.0x0u32
 t.-1
 a.
 .a
@@ -871,17 +922,17 @@ P {}
 P { x: 1 }
     Name 10 11 0 0                  P
     Name 14 15 0 0                  x
-    Literal 17 18 0 1               1
+    Literal 17 18 0 1 10            1
     StructLiteral 10 20 3 0         P { x: 1 }
 P { x: 1, }
     Name 10 11 0 0                  P
     Name 14 15 0 0                  x
-    Literal 17 18 0 1               1
+    Literal 17 18 0 1 10            1
     StructLiteral 10 21 3 0         P { x: 1, }
 P { x: 1, y: a + b }
     Name 10 11 0 0                  P
     Name 14 15 0 0                  x
-    Literal 17 18 0 1               1
+    Literal 17 18 0 1 10            1
     Name 20 21 0 0                  y
     Identifier 23 24 0 0            a
     Identifier 27 28 0 0            b
@@ -892,7 +943,7 @@ P { q: Q { r: 1 } }
     Name 14 15 0 0                  q
     Name 17 18 0 0                  Q
     Name 21 22 0 0                  r
-    Literal 24 25 0 1               1
+    Literal 24 25 0 1 10            1
     StructLiteral 17 27 3 0         Q { r: 1 }
     StructLiteral 10 29 3 0         P { q: Q { r: 1 } }
 """
@@ -954,55 +1005,71 @@ ARRAYS = """
 []
     Array 10 12 0 0                 []
 [1]
-    Literal 11 12 0 1               1
+    Literal 11 12 0 1 10            1
     Array 10 13 1 0                 [1]
 [1,]
-    Literal 11 12 0 1               1
+    Literal 11 12 0 1 10            1
     Array 10 14 1 0                 [1,]
 [1, a]
-    Literal 11 12 0 1               1
+    Literal 11 12 0 1 10            1
     Identifier 14 15 0 0            a
     Array 10 16 2 0                 [1, a]
 [1, a,]
-    Literal 11 12 0 1               1
+    Literal 11 12 0 1 10            1
     Identifier 14 15 0 0            a
     Array 10 17 2 0                 [1, a,]
 [[], [1]]
     Array 11 13 0 0                 []
-    Literal 16 17 0 1               1
+    Literal 16 17 0 1 10            1
     Array 15 18 1 0                 [1]
     Array 10 19 2 0                 [[], [1]]
 [1; 3]
-    Literal 11 12 0 1               1
-    Count 14 15 0 3                 3
+    Literal 11 12 0 1 10            1
+    Count 14 15 0 3 10              3
     ArrayRepeat 10 16 2 0           [1; 3]
 [1u32; 0]
-    LiteralU32 11 15 0 1            1u32
-    Count 17 18 0 0                 0
+    LiteralU32 11 15 0 1 10         1u32
+    Count 17 18 0 0 10              0
     ArrayRepeat 10 19 2 0           [1u32; 0]
 [12u8; 1]
-    Literal 11 15 0 12              12u8
-    Count 17 18 0 1                 1
+    Literal 11 15 0 12 10           12u8
+    Count 17 18 0 1 10              1
     ArrayRepeat 10 19 2 0           [12u8; 1]
 [a + 1; 0x10]
     Identifier 11 12 0 0            a
-    Literal 15 16 0 1               1
+    Literal 15 16 0 1 10            1
     Binary 11 16 2 0                a + 1
-    Count 18 22 0 16                0x10
+    Count 18 22 0 16 16             0x10
     ArrayRepeat 10 23 2 0           [a + 1; 0x10]
 [[0; 2]; 3]
-    Literal 12 13 0 0               0
-    Count 15 16 0 2                 2
+    Literal 12 13 0 0 10            0
+    Count 15 16 0 2 10              2
     ArrayRepeat 11 17 2 0           [0; 2]
-    Count 19 20 0 3                 3
+    Count 19 20 0 3 10              3
     ArrayRepeat 10 21 2 0           [[0; 2]; 3]
 [[0; 2], [1]]
-    Literal 12 13 0 0               0
-    Count 15 16 0 2                 2
+    Literal 12 13 0 0 10            0
+    Count 15 16 0 2 10              2
     ArrayRepeat 11 17 2 0           [0; 2]
-    Literal 20 21 0 1               1
+    Literal 20 21 0 1 10            1
     Array 19 22 1 0                 [1]
     Array 10 23 2 0                 [[0; 2], [1]]
+[1; 0b11]
+    Literal 11 12 0 1 10            1
+    Count 14 18 0 3 2               0b11
+    ArrayRepeat 10 19 2 0           [1; 0b11]
+[0x1felt; 0O7]
+    LiteralFelt 11 18 0 1 16        0x1felt
+    Count 20 23 0 7 8               0O7
+    ArrayRepeat 10 24 2 0           [0x1felt; 0O7]
+[1, 0x1, 0o1, 0b1, true, a]
+    Literal 11 12 0 1 10            1
+    Literal 14 17 0 1 16            0x1
+    Literal 19 22 0 1 8             0o1
+    Literal 24 27 0 1 2             0b1
+    Bool 29 33 0 1                  true
+    Identifier 35 36 0 0            a
+    Array 10 37 6 0                 [1, 0x1, 0o1, 0b1, true, a]
 """
 
 REFUSED_TUPLES_AND_ARRAYS = """
@@ -1027,6 +1094,7 @@ a)
 [1; 3u32]
 [1; 3felt]
 [1; 3u8]
+[1; 0b11felt]
 [1; n]
 [1; (3)]
 [1; 3 + 1]
@@ -1052,7 +1120,7 @@ let a = b;
 let a: felt = 1;
     Name 13 14 0 0                  a
     Named 16 20 0 0                 felt
-    Literal 23 24 0 1               1
+    Literal 23 24 0 1 10            1
     Let 9 25 3 1                    let a: felt = 1;
 let (a, b) = c;
     Name 14 15 0 0                  a
@@ -1154,7 +1222,7 @@ if true {}
     If 9 19 2 0                     if true {}
 if a == 1 {}
     Identifier 12 13 0 0            a
-    Literal 17 18 0 1               1
+    Literal 17 18 0 1 10            1
     Binary 12 18 2 5                a == 1
     Block 19 21 0 0                 {}
     If 9 21 2 0                     if a == 1 {}
@@ -1244,7 +1312,7 @@ if x {} {}
 if x { y: 1 } {}
     Name 12 13 0 0                  x
     Name 16 17 0 0                  y
-    Literal 19 20 0 1               1
+    Literal 19 20 0 1 10            1
     StructLiteral 12 22 3 0         x { y: 1 }
     Block 23 25 0 0                 {}
     If 9 25 2 0                     if x { y: 1 } {}
@@ -1288,7 +1356,7 @@ while x { x = x - 1; }
     Identifier 15 16 0 0            x
     Identifier 19 20 0 0            x
     Identifier 23 24 0 0            x
-    Literal 27 28 0 1               1
+    Literal 27 28 0 1 10            1
     Binary 23 28 2 1                x - 1
     Assign 19 29 2 0                x = x - 1;
     Block 17 31 1 0                 { x = x - 1; }
@@ -1312,14 +1380,14 @@ loop loop continue ;
     Loop 9 29 1 0                   loop loop continue ;
 for (let i = 0; i < 9; i = i + 1) {}
     Name 18 19 0 0                  i
-    Literal 22 23 0 0               0
+    Literal 22 23 0 0 10            0
     Let 14 24 2 0                   let i = 0;
     Identifier 25 26 0 0            i
-    Literal 29 30 0 9               9
+    Literal 29 30 0 9 10            9
     Binary 25 30 2 7                i < 9
     Identifier 32 33 0 0            i
     Identifier 36 37 0 0            i
-    Literal 40 41 0 1               1
+    Literal 40 41 0 1 10            1
     Binary 36 41 2 0                i + 1
     Assign 32 41 2 0                i = i + 1
     Block 43 45 0 0                 {}
@@ -1334,7 +1402,7 @@ for (x; y; z) {}
     For 9 25 4 0                    for (x; y; z) {}
 for (i = 0; f(i); g(i)) break;
     Identifier 14 15 0 0            i
-    Literal 18 19 0 0               0
+    Literal 18 19 0 0 10            0
     Assign 14 20 2 0                i = 0;
     Identifier 21 22 0 0            f
     Identifier 23 24 0 0            i
@@ -1444,29 +1512,35 @@ return (a, b);
     Return 9 23 1 0                 return (a, b);
 const A = 1;
     Name 15 16 0 0                  A
-    Literal 19 20 0 1               1
+    Literal 19 20 0 1 10            1
     Const 9 21 2 0                  const A = 1;
 const A: u32 = 1u32;
     Name 15 16 0 0                  A
     Named 18 21 0 2                 u32
-    LiteralU32 24 28 0 1            1u32
+    LiteralU32 24 28 0 1 10         1u32
     Const 9 29 3 1                  const A: u32 = 1u32;
 a = b;
     Identifier 9 10 0 0             a
     Identifier 13 14 0 0            b
     Assign 9 15 2 0                 a = b;
+m = m & 0xF0;
+    Identifier 9 10 0 0             m
+    Identifier 13 14 0 0            m
+    Literal 17 21 0 240 16          0xF0
+    Binary 13 21 2 13               m & 0xF0
+    Assign 9 22 2 0                 m = m & 0xF0;
 a.b[0] = f();
     Identifier 9 10 0 0             a
     Name 11 12 0 0                  b
     Member 9 12 2 0                 a.b
-    Literal 13 14 0 0               0
+    Literal 13 14 0 0 10            0
     Index 9 14 2 0                  a.b[0
     Identifier 18 19 0 0            f
     Call 18 21 1 0                  f()
     Assign 9 22 2 0                 a.b[0] = f();
 1 = 2;
-    Literal 9 10 0 1                1
-    Literal 13 14 0 2               2
+    Literal 9 10 0 1 10             1
+    Literal 13 14 0 2 10            2
     Assign 9 15 2 0                 1 = 2;
 a + b = c;
     Identifier 9 10 0 0             a
@@ -1496,15 +1570,15 @@ x; {}
     Block 12 14 0 0                 {}
 new T[1];
     Named 13 14 0 3                 T
-    Literal 15 16 0 1               1
+    Literal 15 16 0 1 10            1
     New 9 17 2 0                    new T[1]
     ExprStmt 9 18 1 0               new T[1];
 let a = 1; a = 2; return a;
     Name 13 14 0 0                  a
-    Literal 17 18 0 1               1
+    Literal 17 18 0 1 10            1
     Let 9 19 2 0                    let a = 1;
     Identifier 20 21 0 0            a
-    Literal 24 25 0 2               2
+    Literal 24 25 0 2 10            2
     Assign 20 26 2 0                a = 2;
     Identifier 34 35 0 0            a
     Return 27 36 1 0                return a;
@@ -1556,7 +1630,7 @@ fn f() -> () {}
 fn f() -> felt { return 1; }
     Name 3 4 0 0                    f
     Named 10 14 0 0                 felt
-    Literal 24 25 0 1               1
+    Literal 24 25 0 1 10            1
     Return 17 26 1 0                return 1;
     Function 0 28 3 0               fn f() -> felt { return 1; }
 fn f(a: felt, b: T*) {}
@@ -1614,13 +1688,13 @@ struct S { a: felt, b: [T; 2], }
     Named 14 18 0 0                 felt
     Name 20 21 0 0                  b
     Named 24 25 0 3                 T
-    Count 27 28 0 2                 2
+    Count 27 28 0 2 10              2
     FixedArray 23 29 2 0            [T; 2]
     StructDef 0 32 5 0              struct S { a: felt, b: [T; 2], }
 const A: T = 1;
     Name 6 7 0 0                    A
     Named 9 10 0 3                  T
-    Literal 13 14 0 1               1
+    Literal 13 14 0 1 10            1
     Const 0 15 3 1                  const A: T = 1;
 use m;
     Name 4 5 0 0                    m
@@ -1658,7 +1732,7 @@ use m; struct S {} const A = 1; fn f() {}
     Name 14 15 0 0                  S
     StructDef 7 18 1 0              struct S {}
     Name 25 26 0 0                  A
-    Literal 29 30 0 1               1
+    Literal 29 30 0 1 10            1
     Const 19 31 2 0                 const A = 1;
     Name 35 36 0 0                  f
     TypeTuple 0 0 0 0
@@ -1747,6 +1821,26 @@ const A = 1; fn
 pub fn f() {}
 """
 
+# A numeral in every place that one can stand in, for token tables with other bases.
+NUMERALS = """
+const A: [T; 3] = [t.0, 1felt, 2u32, 4u8, true, [5; 6]];
+    Name 6 7 0 0                    A
+    Named 10 11 0 3                 T
+    Count 13 14 0 3 10              3
+    FixedArray 9 15 2 0             [T; 3]
+    Identifier 19 20 0 0            t
+    TupleIndex 19 22 1 0            t.0
+    LiteralFelt 24 29 0 1 10        1felt
+    LiteralU32 31 35 0 2 10         2u32
+    Literal 37 40 0 4 10            4u8
+    Bool 42 46 0 1                  true
+    Literal 49 50 0 5 10            5
+    Count 52 53 0 6 10              6
+    ArrayRepeat 48 54 2 0           [5; 6]
+    Array 18 55 6 0                 [t.0, 1felt, 2u32, 4u8, true, [5; 6]]
+    Const 0 56 3 1                  const A: [T; 3] = [t.0, 1felt, 2u32, 4u8, true, [5; 6]];
+"""
+
 # ---- the nest
 #
 # Each line is the nest at which a value, a type or a pattern is read, and a text up to there. Parentheses and one token follow.
@@ -1826,11 +1920,12 @@ def rows_of(block, text):
     """The nodes that the lines of a block say, held to the parts of the text that stand beside them."""
     nodes = []
     for line in block:
-        kind, start, end, children, value, *said = line.split(None, 5)
-        start, end = int(start), int(end)
-        if text[start:end].strip() != "".join(said).strip():
+        kind, rest = line.split(None, 1)
+        *numbers, said = (rest + " ").split(" ", 5 if kind in BASED else 4)
+        start, end, children, value, base = [int(number) for number in numbers] + [0] * (kind not in BASED)
+        if text[start:end].strip() != said.strip():
             raise SystemExit(f"parser_expected.py: in {text!r}, {start}..{end} is {text[start:end]!r} and not {said}")
-        nodes.append((kind, start, end, int(children), int(value)))
+        nodes.append((kind, start, end, children, value, base))
     return nodes
 
 
@@ -1848,7 +1943,7 @@ def blocks(written, around):
 def roots(nodes):
     """How many of the nodes are no other's children; each must find its children before it."""
     count = 0
-    for kind, start, end, children, value in nodes:
+    for kind, start, end, children, *_ in nodes:
         if children > count:
             raise SystemExit(f"parser_expected.py: {kind} {start} {end} has {children} children, and {count} stand before it")
         count += 1 - children
@@ -1864,25 +1959,25 @@ def whole(around, text, nodes):
     if around == ITEM:
         return nodes
     if around == BODY:
-        return [("Name", 3, 4, 0, 0), ("TypeTuple", 0, 0, 0, 0)] + nodes + [("Function", 0, end, 2 + roots(nodes), 0)]
+        return [("Name", 3, 4, 0, 0, 0), ("TypeTuple", 0, 0, 0, 0, 0)] + nodes + [("Function", 0, end, 2 + roots(nodes), 0, 0)]
     if roots(nodes) != 1:
         raise SystemExit(f"parser_expected.py: {text!r} has {roots(nodes)} values or types")
     if around == VALUE:
-        return [("Name", 6, 7, 0, 0)] + nodes + [("Const", 0, end, 2, 0)]
-    return [("Name", 6, 7, 0, 0)] + nodes + [("Literal", end - 2, end - 1, 0, 1), ("Const", 0, end, 3, 1)]
+        return [("Name", 6, 7, 0, 0, 0)] + nodes + [("Const", 0, end, 2, 0, 0)]
+    return [("Name", 6, 7, 0, 0, 0)] + nodes + [("Literal", end - 2, end - 1, 0, 1, 10), ("Const", 0, end, 3, 1, 0)]
 
 
 # ---- the cases
 
 NODE_BYTES = 4096
 TREE, SYNTAX, DEEP = "tree", "syntax", "deep"
-EMPTY_ENTRY = (0, 0, 0, 0, 0)
+EMPTY_ENTRY = (0, 0, 0, 0, 0, 0)
 
 
 class Cases(expected.Cases):
     def __init__(self):
         super().__init__()
-        self.seen = set()
+        self.seen, self.shortest = set(), {}
 
     def case(self, text, tokens, answer, nodes=(), node_bytes=NODE_BYTES, rest=0):
         """A case with these tokens and, after the last, `rest` bytes more of token table."""
@@ -1894,7 +1989,10 @@ class Cases(expected.Cases):
 
     def tree(self, text, nodes, node_bytes=NODE_BYTES, rest=0):
         roots(nodes)
-        self.seen |= {(kind, value) if kind in ("Binary", "Unary") else kind for kind, _, _, _, value in nodes}
+        self.seen |= {(kind, value) if kind in ("Binary", "Unary") else kind for kind, _, _, _, value, _ in nodes}
+        for kind, *_ in nodes:
+            if kind not in self.shortest or len(text) < len(self.shortest[kind][0]):
+                self.shortest[kind] = text, nodes
         self.case(text, tokens_of(text), TREE, nodes, node_bytes, rest)
 
     def refused(self, text, answer, node_bytes=NODE_BYTES):
@@ -1921,53 +2019,53 @@ def tokens_of(text):
 
 def nested_parens(n):
     text = "const A = " + "(" * n + "1" + ")" * n + ";"
-    nodes = [("Literal", 10 + n, 11 + n, 0, 1)]
-    nodes += [("Paren", 10 + n - k, 11 + n + k, 1, 0) for k in range(1, n + 1)]
+    nodes = [("Literal", 10 + n, 11 + n, 0, 1, 10)]
+    nodes += [("Paren", 10 + n - k, 11 + n + k, 1, 0, 0) for k in range(1, n + 1)]
     return text, whole(VALUE, text, nodes)
 
 
 def nested_arrays(n):
     text = "const A = " + "[" * n + "]" * n + ";"
-    nodes = [("Array", 9 + n - k, 11 + n + k, min(k, 1), 0) for k in range(n)]
+    nodes = [("Array", 9 + n - k, 11 + n + k, min(k, 1), 0, 0) for k in range(n)]
     return text, whole(VALUE, text, nodes)
 
 
 def nested_calls(n):
     text = "const A = " + "f(" * n + "x" + ")" * n + ";"
     last = 10 + 2 * n
-    nodes = [("Identifier", 10 + 2 * k, 11 + 2 * k, 0, 0) for k in range(n + 1)]
-    nodes += [("Call", last - 2 * k, last + 1, 2, 0) for k in range(1, n + 1)]
+    nodes = [("Identifier", 10 + 2 * k, 11 + 2 * k, 0, 0, 0) for k in range(n + 1)]
+    nodes += [("Call", last - 2 * k, last + 1, 2, 0, 0) for k in range(1, n + 1)]
     return text, whole(VALUE, text, nodes)
 
 
 def nested_types(n):
     text = "const A: " + "(" * n + "T" + ")" * n + " = 1;"
-    return text, whole(TYPE, text, [("Named", 9 + n, 10 + n, 0, 3)])
+    return text, whole(TYPE, text, [("Named", 9 + n, 10 + n, 0, 3, 0)])
 
 
 def nested_allocations(n):
     text = "const A = new " + "(" * n + "T" + ")" * n + "[1];"
     at = 14 + 2 * n
-    nodes = [("Named", 14 + n, 15 + n, 0, 3), ("Literal", at + 2, at + 3, 0, 1), ("New", 10, at + 4, 2, 0)]
+    nodes = [("Named", 14 + n, 15 + n, 0, 3, 0), ("Literal", at + 2, at + 3, 0, 1, 10), ("New", 10, at + 4, 2, 0, 0)]
     return text, whole(VALUE, text, nodes)
 
 
 def nested_patterns(n):
     text = "fn f() { let " + "(" * n + "a" + ",b)" * n + " = c; }"
     at = 14 + 4 * n
-    nodes = [("Name", 13 + n, 14 + n, 0, 0)]
+    nodes = [("Name", 13 + n, 14 + n, 0, 0, 0)]
     for k in range(n):
-        nodes += [("Name", 15 + n + 3 * k, 16 + n + 3 * k, 0, 0), ("PatternTuple", 0, 0, 2, 0)]
-    nodes += [("Identifier", at + 3, at + 4, 0, 0), ("Let", 9, at + 5, 2, 0)]
+        nodes += [("Name", 15 + n + 3 * k, 16 + n + 3 * k, 0, 0, 0), ("PatternTuple", 0, 0, 2, 0, 0)]
+    nodes += [("Identifier", at + 3, at + 4, 0, 0, 0), ("Let", 9, at + 5, 2, 0, 0)]
     return text, whole(BODY, text, nodes)
 
 
 def nested_blocks(n, inside="", nodes=()):
     """The nodes inside are told from the place where they begin."""
     text = "fn f() { " + "{" * n + inside + "}" * n + " }"
-    moved = [(kind, 9 + n + start, 9 + n + end, children, value) for kind, start, end, children, value in nodes]
+    moved = [(kind, 9 + n + start, 9 + n + end, *more) for kind, start, end, *more in nodes]
     size = len(inside)
-    moved += [("Block", 9 + n - k, 9 + n + size + k, roots(nodes) if k == 1 else 1, 0) for k in range(1, n + 1)]
+    moved += [("Block", 9 + n - k, 9 + n + size + k, roots(nodes) if k == 1 else 1, 0, 0) for k in range(1, n + 1)]
     return text, whole(BODY, text, moved)
 
 
@@ -1977,51 +2075,51 @@ def else_chain(n):
     nodes = []
     for k in range(n):
         at = 9 + 15 * k
-        nodes += [("Identifier", at + 4, at + 5, 0, 0), ("Block", at + 7, at + 9, 0, 0)]
+        nodes += [("Identifier", at + 4, at + 5, 0, 0, 0), ("Block", at + 7, at + 9, 0, 0, 0)]
     end = 9 + 15 * n - 6
-    nodes += [("If", 9 + 15 * k, end, 2 if k == n - 1 else 3, 0) for k in reversed(range(n))]
+    nodes += [("If", 9 + 15 * k, end, 2 if k == n - 1 else 3, 0, 0) for k in reversed(range(n))]
     return text, whole(BODY, text, nodes)
 
 
 def nested_conditions(word, n):
     text = f"fn f() {{ {word} (" + "(" * n + "1" + ")" * n + ") {} }"
     at = 11 + len(word) + n
-    nodes = [("Literal", at, at + 1, 0, 1)] + [("Paren", at - k, at + 1 + k, 1, 0) for k in range(1, n + 1)]
-    nodes += [("Block", at + n + 3, at + n + 5, 0, 0), (word.capitalize(), 9, at + n + 5, 2, 0)]
+    nodes = [("Literal", at, at + 1, 0, 1, 10)] + [("Paren", at - k, at + 1 + k, 1, 0, 0) for k in range(1, n + 1)]
+    nodes += [("Block", at + n + 3, at + n + 5, 0, 0, 0), (word.capitalize(), 9, at + n + 5, 2, 0, 0)]
     return text, whole(BODY, text, nodes)
 
 
 def prefixes(n):
     text = "const A = " + "!" * n + "a;"
-    nodes = [("Identifier", 10 + n, 11 + n, 0, 0)] + [("Unary", 10 + n - k, 11 + n, 1, 0) for k in range(1, n + 1)]
+    nodes = [("Identifier", 10 + n, 11 + n, 0, 0, 0)] + [("Unary", 10 + n - k, 11 + n, 1, 0, 0) for k in range(1, n + 1)]
     return text, whole(VALUE, text, nodes)
 
 
 def call_chain(n):
     text = "const A = f" + "()" * n + ";"
-    nodes = [("Identifier", 10, 11, 0, 0)] + [("Call", 10, 11 + 2 * k, 1, 0) for k in range(1, n + 1)]
+    nodes = [("Identifier", 10, 11, 0, 0, 0)] + [("Call", 10, 11 + 2 * k, 1, 0, 0) for k in range(1, n + 1)]
     return text, whole(VALUE, text, nodes)
 
 
 def sum_chain(n):
     text = "const A = a" + "+a" * n + ";"
-    nodes = [("Identifier", 10, 11, 0, 0)]
+    nodes = [("Identifier", 10, 11, 0, 0, 0)]
     for k in range(1, n + 1):
-        nodes += [("Identifier", 10 + 2 * k, 11 + 2 * k, 0, 0), ("Binary", 10, 11 + 2 * k, 2, 0)]
+        nodes += [("Identifier", 10 + 2 * k, 11 + 2 * k, 0, 0, 0), ("Binary", 10, 11 + 2 * k, 2, 0, 0)]
     return text, whole(VALUE, text, nodes)
 
 
 def pointers(n):
     text = "const A: T" + "*" * n + " = 1;"
-    nodes = [("Named", 9, 10, 0, 3)] + [("Pointer", 9, 10 + k, 1, 0) for k in range(1, n + 1)]
+    nodes = [("Named", 9, 10, 0, 3, 0)] + [("Pointer", 9, 10 + k, 1, 0, 0) for k in range(1, n + 1)]
     return text, whole(TYPE, text, nodes)
 
 
 def nest_cases(cases):
-    name = [("Identifier", 0, 1, 0, 0), ("ExprStmt", 0, 2, 1, 0)]
+    name = [("Identifier", 0, 1, 0, 0, 0), ("ExprStmt", 0, 2, 1, 0, 0)]
     last = [
         (nested_parens, 63), (nested_arrays, 64), (nested_calls, 63), (nested_types, 63), (nested_allocations, 62),
-        (nested_patterns, 62), (nested_blocks, 64), (lambda n: nested_blocks(n, "break;", [("Break", 0, 6, 0, 0)]), 63),
+        (nested_patterns, 62), (nested_blocks, 64), (lambda n: nested_blocks(n, "break;", [("Break", 0, 6, 0, 0, 0)]), 63),
         (lambda n: nested_blocks(n, "x;", name), 62), (else_chain, 63), (lambda n: nested_conditions("if", n), 62),
         (lambda n: nested_conditions("while", n), 62),
     ]
@@ -2074,7 +2172,7 @@ def token_cases(cases):
         cases.case(text, [], TREE, rest=rest)
     # an entry that is no token of the grammar
     for kind in (0, 51, 255):
-        entry = (kind, 0, 0, 0, 0)
+        entry = (kind, 0, 0, 0, 0, 0)
         cases.case("", [entry], SYNTAX)
         for place in range(len(tokens) + 1):
             cases.case(text, tokens[:place] + [entry] + tokens[place:], SYNTAX)
@@ -2088,12 +2186,31 @@ def token_cases(cases):
     # spans are the tokens' own, and only a type's spelling is looked up in the text; a part that is not there spells no type
     text = "const A: felt = 1;"
     for by, short, named in ((0, text, 0), (0, text[:13], 0), (0, text[:12], 3), (0, "", 3), (60000, text, 3)):
-        tokens = [(kind, suffix, start + by, end + by, value) for kind, suffix, start, end, value in tokens_of(text)]
-        nodes = [("Name", 6, 7, 0, 0), ("Named", 9, 13, 0, named), ("Literal", 16, 17, 0, 1), ("Const", 0, 18, 3, 1)]
+        tokens = [(kind, suffix, start + by, end + by, *more) for kind, suffix, start, end, *more in tokens_of(text)]
+        nodes = [("Name", 6, 7, 0, 0, 0), ("Named", 9, 13, 0, named, 0), ("Literal", 16, 17, 0, 1, 10), ("Const", 0, 18, 3, 1, 0)]
         nodes = [(kind, start + by, end + by, *more) for kind, start, end, *more in nodes]
         cases.case(short, tokens, TREE, nodes)
-    tokens = [(kind, suffix, end, start, value) for kind, suffix, start, end, value in tokens_of(text)]
-    cases.case(text, tokens, TREE, [("Name", 7, 6, 0, 0), ("Named", 13, 9, 0, 3), ("Literal", 17, 16, 0, 1), ("Const", 5, 17, 3, 1)])
+    tokens = [(kind, suffix, end, start, *more) for kind, suffix, start, end, *more in tokens_of(text)]
+    cases.case(text, tokens, TREE,
+               [("Name", 7, 6, 0, 0, 0), ("Named", 13, 9, 0, 3, 0), ("Literal", 17, 16, 0, 1, 10), ("Const", 5, 17, 3, 1, 0)])
+    # a base is the numeral token's own, however that is spelled; what any other token has for it is of no account
+    [(text, nodes)] = blocks(NUMERALS, ITEM)
+    tokens = tokens_of(text)
+    for base in (0, 1, 2, 7, 8, 10, 16, 99, 100, 255):
+        cases.case(text, *with_bases(tokens, nodes, [base] * len(tokens)))
+    cases.case(text, *with_bases(tokens, nodes, [base or 255 for *_, base in tokens]))
+    cases.case(text, *with_bases(tokens, nodes, [16 if base == 0 else 0 for *_, base in tokens]))
+    # a node of every kind, each token with another base
+    for text, nodes in dict(cases.shortest[kind] for kind in NODE_KINDS).items():
+        tokens = tokens_of(text)
+        cases.case(text, *with_bases(tokens, nodes, range(255 - len(tokens), 255)))
+
+
+def with_bases(tokens, nodes, bases):
+    """The tokens with these bases, and the tree that is owed for them."""
+    base_at = {token[2]: base for token, base in zip(tokens, bases)}
+    return ([(*token[:5], base) for token, base in zip(tokens, bases)], TREE,
+            [(*node[:5], base_at[node[1]] if node[0] in BASED else 0) for node in nodes])
 
 
 def all_cases(cases):

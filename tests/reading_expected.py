@@ -14,11 +14,11 @@ down by hand in parser_expected.py, and with the outcomes that 01 names, or noth
 
 A line of the case file is one of these. Sizes are in bytes, but for LIST, which counts records.
 
-  r TOKENS NODES DIAGNOSTICS LIST TEXT          a reading with tables of these sizes
-  s KIND START END TEXT                         a spelling
-  j OUT NODES KIND,START,END,CHILDREN,VALUE ..  a listing of these entries; `*N` after an entry repeats it
-  k OUT DIAGNOSTICS OUTCOME START,END,REASON .. a listing of a refusal
-  b TEXT                                        a text that later lines take parts of
+  r TOKENS NODES DIAGNOSTICS LIST TEXT              a reading with tables of these sizes
+  s KIND START END TEXT                             a spelling
+  j OUT NODES KIND,START,END,CHILDREN,VALUE,BASE .. a listing of these entries; `*N` after an entry repeats it
+  k OUT DIAGNOSTICS OUTCOME START,END,REASON ..     a listing of a refusal
+  b TEXT                                            a text that later lines take parts of
   # TITLE
 
 TEXT is the rest of the line: a byte stands for itself, `\\\\` is a backslash, `\\xHH` a byte, `\\n` LF, `\\*N(PART\\)` a part N
@@ -48,7 +48,7 @@ import parser_expected
 import reading_grammar
 
 ROOT = expected.ROOT
-KINDS = parser_expected.NODE_KINDS
+KINDS, BASED = parser_expected.NODE_KINDS, parser_expected.BASED
 NUMBER = {kind: number for number, kind in enumerate(KINDS, 1)}
 SPELLED = ("Name", "Named", "Identifier")
 
@@ -142,9 +142,14 @@ def spelling(text, kind, start, end):
 # ---- the listing
 
 
+def row(kind, *numbers):
+    """Start, end, children and value; the base only of a kind that carries one."""
+    return f'["{kind}",' + ",".join(map(str, numbers if kind in BASED else numbers[:4])) + "]"
+
+
 def listing(nodes):
     """RFC 8259 JSON without spaces; nodes with their kind by name."""
-    return "[" + ",".join(f'["{kind}",{start},{end},{children},{value}]' for kind, start, end, children, value in nodes) + "]"
+    return "[" + ",".join(row(*node) for node in nodes) + "]"
 
 
 def refusal(outcome, errors):
@@ -176,12 +181,13 @@ def filled(entries, size):
 
 
 def token_table(tokens, size):
-    return filled([struct.pack("<BBHHHQ", kind, suffix, start, end, 0, value) for kind, suffix, start, end, value in tokens], size)
+    return filled([struct.pack("<BBHHBBQ", kind, suffix, start, end, base, 0, value)
+                   for kind, suffix, start, end, value, base in tokens], size)
 
 
 def node_table(nodes, size):
-    return filled([struct.pack("<BBHHHQ", NUMBER[kind], 0, start, end, children, value)
-                   for kind, start, end, children, value in nodes], size)
+    return filled([struct.pack("<BBHHHQ", NUMBER[kind], base, start, end, children, value)
+                   for kind, start, end, children, value, base in nodes], size)
 
 
 def diagnostic_table(errors, size):
@@ -193,7 +199,7 @@ def records(errors, length):
 
 
 def spellings(text, nodes):
-    return b"".join(text[start:end] + b"\n" for kind, start, end, _, _ in nodes if kind in SPELLED)
+    return b"".join(text[start:end] + b"\n" for kind, start, end, *_ in nodes if kind in SPELLED)
 
 
 def crc(table):
@@ -340,7 +346,8 @@ def stated_cases(cases):
         outcome = cases.read(text).outcome
         if outcome != owed:
             raise SystemExit(f"reading_expected.py: {text!r} has outcome {outcome}, and 01 says {owed}")
-    stated = '[["Name",6,7,0,0],["Literal",10,11,0,1],["Const",0,12,2,0]]'
+    # 01's example, with the base that its Literal ends in
+    stated = '[["Name",6,7,0,0],["Literal",10,11,0,1,10],["Const",0,12,2,0]]'
     if listing(Text("const A = 1;").nodes()[1]) != stated:
         raise SystemExit("reading_expected.py: the listing of `const A = 1;` is not 01's")
     if answer_listing(Text("@").read(0, 0, 8)) != '{"refused":3,"diagnostics":[[0,1,1]]}':
@@ -406,6 +413,20 @@ def byte_cases(cases):
         for whole in wholes:
             before, after = whole.encode().split(b"{}")
             cases.read(before + part + after)
+
+
+# ---- bases
+
+
+def base_cases(cases):
+    """A numeral of each base, in both cases of its letter, in every place that one can stand in; and some that are refused."""
+    for n in ("1", "0x1", "0X1", "0o1", "0O1", "0b1", "0B1"):
+        cases.read(f"const A: [T; {n}] = [{n}, {n}felt, {n}u32, t.{n}, [{n}; {n}], true, a];")
+        cases.read(body(f"f({n}x); a = {n};"))
+        cases.read(f"const A = {n}felt2;")
+        cases.read(f"const A = t.{n}u32;")
+    for n in ("0b2", "0B2", "0o8", "0O8", "0xg", "0XG", "0x10000000000000000", "0_x", "00x1", "0b1b", "0xb"):
+        cases.read(f"const A = {n};")
 
 
 # ---- long texts
@@ -724,42 +745,51 @@ def nested_texts(cases, seed, count):
 
 # ---- the listing and the spellings
 
-LARGEST = (17, 65535, 65535, 65535, expected.LARGEST_VALUE)
+LARGEST = (8, 65535, 65535, 65535, expected.LARGEST_VALUE, 255)
+LARGEST_UNBASED = (17, 65535, 65535, 65535, expected.LARGEST_VALUE, 255)
 
 
 def listing_cases(cases):
-    first = [((1, 6, 7, 0, 0), 1), ((7, 10, 11, 0, 1), 1), ((27, 0, 12, 2, 0), 1)]
+    first = [((1, 6, 7, 0, 0, 0), 1), ((7, 10, 11, 0, 1, 10), 1), ((27, 0, 12, 2, 0, 0), 1)]
     cases.listed([])
     for out in (0, 1, 2, 3, 20):
         cases.listed([], out)
         cases.listed([], out, rest=15)
-    for out in range(56, 66):
+    for out in range(56, 69):
         cases.listed(first, out)
     for rest in (1, 7, 15):
         cases.listed(first, rest=rest)
     for kind in range(1, 43):
-        cases.listed([((kind, kind, 2 * kind, 0, kind), 1)])
+        for base in (0, 16):
+            cases.listed([((kind, kind, 2 * kind, 0, kind, base), 1)])
     for wrong in (0, 43, 44, 100, 128, 255):
-        entry = ((wrong, 0, 1, 0, 0), 1)
+        entry = ((wrong, 0, 1, 0, 0, 0), 1)
         for runs in ([entry], [entry] + first, first + [entry], first[:1] + [entry] + first[1:], [entry, entry]):
             cases.listed(runs, 400)
             cases.listed(runs, 0)
             cases.listed(runs, 63)
-    for times in (1, 2, 3):
-        size = 57 * times + 1
-        for out in (0, size - 57, size - 2, size - 1, size, size + 1, size + 40):
-            cases.listed([(LARGEST, times)], out)
+    for entry, most in ((LARGEST, 59), (LARGEST_UNBASED, 57)):
+        for times in (1, 2, 3):
+            size = most * times + 1
+            for out in (0, size - most, size - 2, size - 1, size, size + 1, size + 40):
+                cases.listed([(entry, times)], out)
     for digits in range(20):
         for value in (10**digits - 1, 10**digits):
-            cases.listed([((7, 0, 1, 0, value), 1)])
+            cases.listed([((7, 0, 1, 0, value, 10), 1)])
     for number in (0, 9, 10, 99, 100, 999, 1000, 9999, 10000, 65534, 65535):
-        cases.listed([((14, number, 1, 2, 3), 1), ((18, 1, number, 2, 3), 1), ((20, 1, 2, number, 3), 1)])
-    for runs in ([(LARGEST, 65535)], [((1, 0, 1, 0, 0), 40000), ((0, 0, 0, 0, 0), 1)]):
-        size = 57 * 65535 + 1
+        cases.listed([((14, number, 1, 2, 3, 0), 1), ((18, 1, number, 2, 3, 0), 1), ((20, 1, 2, number, 3, 0), 1)])
+    # the base byte of the four kinds is printed as it is, the other kinds' is not
+    for base in (0, 1, 2, 7, 8, 9, 10, 16, 99, 100, 254, 255):
+        runs = [((kind, 0, 1, 0, 1, base), 1) for kind in (5, 6, 7, 8, 9, 10, 19)]
+        size = len(list_entry([entry for entry, _ in runs], 10**9)[1])
+        cases.listed(runs, size)
+        cases.listed(runs, size - 1)
+    for runs in ([(LARGEST, 65535)], [((1, 0, 1, 0, 0, 0), 40000), ((0, 0, 0, 0, 0, 0), 1)]):
+        size = 59 * 65535 + 1
         cases.listed(runs, size)
         cases.listed(runs, size - 1)
         cases.listed(runs, 0)
-    cases.listed([((1, 0, 1, 0, 0), 1000), ((17, 1, 20, 1000, 0), 1)], 20000)
+    cases.listed([((1, 0, 1, 0, 0, 0), 1000), ((17, 1, 20, 1000, 0, 0), 1)], 20000)
 
 
 def refusal_cases(cases):
@@ -815,6 +845,8 @@ def all_cases():
     order_cases(cases)
     cases.section("bytes")
     byte_cases(cases)
+    cases.section("bases")
+    base_cases(cases)
     cases.section("examples, whole and damaged")
     chance = expected.Chance(35)
     for text in examples().values():
@@ -889,12 +921,13 @@ OUTCOME_SAID = {LONG: "over 65,535 bytes", ENCODING: "not UTF-8", NEST: "an atte
 BINARY = "+ Add,- Sub,* Mul,/ Div,% Mod,== Eq,!= Neq,< Less,> Greater,<= LessEqual,>= GreaterEqual,&& And,|| Or,& BitwiseAnd,| BitwiseOr,^ BitwiseXor"
 
 
-def desk_node(text, kind, start, end, value):
+def desk_node(text, kind, start, end, value, base):
     spelling = text[start:end].decode()
     of = {
         "Name": lambda: spelling, "Identifier": lambda: spelling,
         "Named": lambda: spelling + (" (other)" if value == 3 else f" ({['felt', 'bool', 'u32'][value]})"),
-        "Count": lambda: str(value), "Literal": lambda: str(value), "LiteralFelt": lambda: f"{value} felt", "LiteralU32": lambda: f"{value} u32",
+        "Count": lambda: f"{value} base {base}", "Literal": lambda: f"{value} base {base}",
+        "LiteralFelt": lambda: f"{value} felt base {base}", "LiteralU32": lambda: f"{value} u32 base {base}",
         "Bool": lambda: ["false", "true"][value], "TupleIndex": lambda: str(value),
         "Unary": lambda: ["! (Not)", "- (Neg)"][value],
         "Binary": lambda: "{} ({})".format(*BINARY.split(",")[value].split()),
@@ -907,9 +940,9 @@ def desk_node(text, kind, start, end, value):
 def desk_tree(text, nodes):
     """Parents before children, two spaces for each level, up to 40 levels."""
     trees = []
-    for kind, start, end, children, value in nodes:
+    for kind, start, end, children, value, base in nodes:
         below = [trees.pop() for _ in range(children)]
-        trees.append((desk_node(text, kind, start, end, value), below))
+        trees.append((desk_node(text, kind, start, end, value, base), below))
     left = [(1, tree) for tree in reversed(trees)]
     while left:
         depth, (said, below) = left.pop()
@@ -962,6 +995,7 @@ def texts(folder):
         "more_tokens": b"const A = 1;" * 205, "errors": b"@" * 1024, "more_errors": b"@a" * 1030, "suffixes": b"const A = 1x" + b"+1x" * 500 + b";",
         "deep": PARENS[1].bytes, "not_deep": PARENS[0].bytes, "minus": b"const A =" + b"-" * 1000 + b"1;", "cut": b"// \xe2\x82", "no_items": b"x",
         "largest": b"const A: [T; 18446744073709551615] = 0xffffffffffffffffu32;", "far": b" " * 65523 + b"const A = 1;",
+        "bases": b"const A: [felt; 0x3] = [0b1, 0O7felt, 0XfFu32, 9, t.0x1, [0o1; 0B11]];",
     }
     named.update(examples())
     Path(folder).mkdir(parents=True, exist_ok=True)

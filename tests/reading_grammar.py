@@ -23,10 +23,10 @@ class Deep(Exception):
 
 
 class Node:
-    __slots__ = ("kind", "start", "end", "value", "children", "suffix")
+    __slots__ = ("kind", "start", "end", "value", "children", "suffix", "base")
 
-    def __init__(self, kind, span, children=(), value=0, suffix=0):
-        self.kind, self.value, self.children, self.suffix = kind, value, list(children), suffix
+    def __init__(self, kind, span, children=(), value=0, suffix=0, base=0):
+        self.kind, self.value, self.children, self.suffix, self.base = kind, value, list(children), suffix, base
         self.start, self.end = span
 
 
@@ -231,7 +231,7 @@ def stars(base):
 def array_size(size):
     if size.kind != "Literal" or size.suffix:
         return FAIL
-    return Node("Count", (size.start, size.end), value=size.value)
+    return Node("Count", (size.start, size.end), value=size.value, base=size.base)
 
 
 array_type = spanned(seq("LBrack", type_expr, "Semicolon", mapped(expr, array_size), "RBrack"), node_of("FixedArray"))
@@ -240,8 +240,8 @@ type_expr.body = stars(choice(named_type, array_type, tuple_type(type_expr)))
 
 # ---- expressions, 757 to 1244
 
-literal = spanned(just("LiteralNumber"), lambda token, span, text: Node(LITERALS[token[1]], span, value=token[4],
-                                                                       suffix=3 if token[1] == 3 else 0))
+literal = spanned(just("LiteralNumber"), lambda token, span, text: Node(
+    LITERALS[token[1]], span, value=token[4], suffix=3 if token[1] == 3 else 0, base=token[5]))
 
 boolean_literal = choice(spanned(just("True"), lambda token, span, text: Node("Bool", span, value=1)),
                          spanned(just("False"), lambda token, span, text: Node("Bool", span, value=0)))
@@ -279,8 +279,8 @@ paren_or_tuple = choice(unit, spanned(seq("LParen", expr, paren_tail), paren_mad
 
 
 def repeat_made(parts, span, text):
-    element, (_, suffix, start, end, value) = parts
-    return FAIL if suffix else Node("ArrayRepeat", span, [element, Node("Count", (start, end), value=value)])
+    element, (_, suffix, start, end, value, base) = parts
+    return FAIL if suffix else Node("ArrayRepeat", span, [element, Node("Count", (start, end), value=value, base=base)])
 
 
 array_repeat = spanned(seq("LBrack", expr, "Semicolon", just("LiteralNumber"), "RBrack"), repeat_made)
@@ -301,7 +301,7 @@ def call_made(parts):
 
 
 def tuple_index_made(parts):
-    _, suffix, _, end, value = parts[0]
+    _, suffix, _, end, value, _ = parts[0]
     return FAIL if suffix else lambda of: Node("TupleIndex", (of.start, end), [of], value)
 
 
@@ -442,4 +442,4 @@ def parse(text, tokens):
         return None
     nodes = post_order(trees)
     unknown = [(node.start, node.end) for node in nodes if node.suffix]
-    return [(node.kind, node.start, node.end, len(node.children), node.value) for node in nodes], unknown
+    return [(node.kind, node.start, node.end, len(node.children), node.value, node.base) for node in nodes], unknown

@@ -4,7 +4,8 @@
 //!     fixed DIR check    says whether they are what it writes
 //!
 //! A case is a line with the bytes of the token, node and diagnostic table and of the text, then the text and a line feed. An answer
-//! is two lines: outcome, counts, three numbers of stray bytes, which are owed to be 0, and the tokens; then the listing.
+//! is two lines: outcome, counts, three numbers of stray bytes, which are owed to be 0, and the tokens; then the listing. A token has
+//! its kind, suffix, start, end, value and base.
 
 #[allow(dead_code)]
 mod generate;
@@ -48,6 +49,30 @@ const NAMED: [&str; 19] = [
     "fn f() { 12u8; if a [12u8, 1]; }",
 ];
 
+/// Numerals of every base, in either case of its letter, where literals, counts and tuple indices stand; then refused spellings.
+const BASES: [&str; 20] = [
+    "const A = 0x1f;",
+    "const A = 0XFfelt;",
+    "const A = 0xABCDEFu32;",
+    "const A = 0o17;",
+    "const A = 0O17felt;",
+    "const A = 0o7u32;",
+    "const A = 0b101;",
+    "const A = 0B1felt;",
+    "const A = 0b0u32;",
+    "const A = 00x;",
+    "const A = (010, 7felt, 0u32, 0x0, 0O0, 0B0);",
+    "const A = 0XFFFFFFFFFFFFFFFF + 0o1777777777777777777777;",
+    "const A: [[felt; 0b11]; 0O7]* = [[0; 0x3]; 0X7];",
+    "const A: ([T; 12], [T; 0B1100]) = t.0x1.0b0.0o7.2;",
+    "fn f() { a[0b1] = new felt[0o10] as u32 & !0xF0; return t.0X1[0B0felt]; }",
+    "fn f() { 0x1u8; 0_x; [0b1u8; 0x2]; if a [0O7i8, 0b1]; }",
+    "fn f() { [0; 0x3u32]; }",
+    "const A: [T; 0b1felt] = 1;",
+    "const A = t.0o1u32;",
+    "const A = 0X + 0o + 0B + 0o8 + 0b2 + 0xg + 0xfelt + 0x10000000000000000;",
+];
+
 struct List {
     cases: Vec<u8>,
     answers: String,
@@ -65,7 +90,7 @@ impl List {
         write!(out, "o{} {} {} {} 0 0 0", answer.outcome, answer.token_count, answer.node_count, answer.diagnostics.len()).unwrap();
         for token in &answer.tokens {
             let (start, end) = (token.span.start, token.span.end);
-            write!(out, " {},{},{start},{end},{}", token.kind as u8, token.suffix, token.value).unwrap();
+            write!(out, " {},{},{start},{end},{},{}", token.kind as u8, token.suffix, token.value, token.base).unwrap();
         }
         let json = if answer.outcome == 0 {
             reader::list(&reader::table(&answer.nodes, answer.nodes.len() * Node::SIZE), usize::MAX).1
@@ -99,7 +124,7 @@ impl List {
 
 fn list() -> List {
     let mut list = List { cases: Vec::new(), answers: String::new(), count: 0 };
-    for text in NAMED {
+    for text in NAMED.iter().chain(&BASES) {
         list.add_with_rooms(text.as_bytes());
     }
     for nest in [63, 64] {

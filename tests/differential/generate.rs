@@ -76,9 +76,9 @@ const EDGES: [&str; 13] = [
     "10000000000000000000000000000000000000000000000000000000000000000",
     "0",
 ];
-const SUFFIXES: [&str; 22] = [
+const SUFFIXES: [&str; 24] = [
     "", "", "", "felt", "u32", "felt", "u32", "u8", "i64", "feltu32", "u32felt", "feltfelt", "u32u32", "_felt", "felt_", "_", "x",
-    "e5", "fel", "u3", "felt2", "u32x",
+    "e5", "fel", "u3", "felt2", "u32x", "_x", "b1",
 ];
 
 /// A numeral, often an odd one: any base, digits of another, suffix words in odd places, values on the edge.
@@ -118,6 +118,24 @@ pub fn odd_numeral(random: &mut Random) -> String {
         spelling.insert(0, '1');
     }
     spelling
+}
+
+/// A numeral that fits, without suffix: any base, either case of its letter and of its digits.
+fn any_base(random: &mut Random) -> String {
+    let value = if random.one_in(16) { u64::MAX } else { random.next() >> random.pick(&[0, 0, 30, 48, 56, 60, 61, 63]) };
+    match random.below(10) {
+        0 => format!("0x{value:x}"),
+        1 => format!("0x{value:X}"),
+        2 => format!("0X{value:x}"),
+        3 => format!("0X{value:X}"),
+        4 => format!("0o{value:o}"),
+        5 => format!("0O{value:o}"),
+        6 => format!("0b{value:b}"),
+        7 => format!("0B{value:b}"),
+        // leading zeros set no base
+        8 => format!("00{value}"),
+        _ => format!("{value}"),
+    }
 }
 
 /// Bytes for the numeral entry: mostly numerals, some not, a few on the edge of the length.
@@ -199,11 +217,13 @@ impl Program<'_> {
     fn numeral(&mut self) {
         let numeral = match self.random.below(30) {
             0 if !self.careful => odd_numeral(self.random),
+            1 if !self.careful && self.one_in(2) => format!("{}u8", any_base(self.random)),
             1 if !self.careful => format!("{}u8", self.random.below(300)),
-            2 | 3 => format!("{}felt", self.random.below(300)),
-            4 | 5 => format!("{}u32", self.random.below(300)),
-            6 => format!("0x{:x}", self.random.next()),
-            7 => format!("{}", self.random.next()),
+            2 => format!("{}felt", self.random.below(300)),
+            3 => format!("{}u32", self.random.below(300)),
+            4 | 5 => format!("{}felt", any_base(self.random)),
+            6 | 7 => format!("{}u32", any_base(self.random)),
+            8..=11 => any_base(self.random),
             _ => format!("{}", self.random.below(12)),
         };
         self.words.push(Cow::Owned(numeral));
@@ -213,6 +233,10 @@ impl Program<'_> {
     fn count(&mut self) {
         if self.slip(12) {
             self.numeral();
+        } else if self.one_in(2) {
+            let count = any_base(self.random);
+            self.words.push(Cow::Owned(count));
+            self.left -= 1;
         } else {
             let count = self.random.pick(&["0", "3", "0x10", "18446744073709551615"]);
             self.say(count);
@@ -634,6 +658,7 @@ const AROUND: &[(Sort, &str, &str, Sort)] = &[
     (E, "( a ,", ")", E),
     (E, "[", "]", E),
     (E, "[", "; 3 ]", E),
+    (E, "[", "; 0B11 ]", E),
     (E, "[", ", a ]", E),
     (E, "[ a ,", "]", E),
     (E, "f (", ")", E),
@@ -647,12 +672,14 @@ const AROUND: &[(Sort, &str, &str, Sort)] = &[
     (E, "- ! (", ")", E),
     (E, "a + b * (", ") as felt", E),
     (E, "(", ") . 0 . a", E),
+    (E, "(", ") . 0o1 . 0x2", E),
     (E, "a . b (", ") [ 0 ]", E),
     (T, "(", ")", T),
     (T, "(", ", )", T),
     (T, "(", ") *", T),
     (T, "( felt ,", ")", T),
     (T, "[", "; 3 ]", T),
+    (T, "[", "; 0x3 ]", T),
     (T, "[ felt ;", "]", E),
     (A, "(", ")", A),
     (A, "(", ", )", A),
@@ -679,9 +706,9 @@ fn leaf(random: &mut Random, sort: Sort) -> &'static str {
         S => random.pick(&["a ;", "", "{ }", "break ;", "return ;", "if ( a ) { }", "if ( a , b ) { }", "let a = 1 ;"]),
         E => random.pick(&[
             "a", "1", "1", "1u8", "", "( )", "[ ]", "S { }", "f ( )", "a . 0", "- a", "a as T", "a + b", "new T [ 1 ]",
-            "S { a : 1 }",
+            "S { a : 1 }", "0X1f", "0b1felt", "0o7u32", "[ 1 ; 0O7 ]",
         ]),
-        T => random.pick(&["felt", "felt", "( )", "( , )", "", "[ T ; 3 ]", "T * *", "( T )"]),
+        T => random.pick(&["felt", "felt", "( )", "( , )", "", "[ T ; 3 ]", "T * *", "( T )", "[ T ; 0b11 ]"]),
         A => random.pick(&["felt", "felt", "( )", "( , )", "", "T * *", "( T )"]),
         P => random.pick(&["a", "a", "( a , b )", "", "( a )"]),
     }
@@ -730,7 +757,7 @@ fn deep(random: &mut Random) -> Vec<Word> {
 fn any_word(random: &mut Random) -> Word {
     match random.below(10) {
         0 => Cow::Owned(odd_numeral(random)),
-        1 => Cow::Borrowed(random.pick(&["0", "1", "12u8", "3felt", "4u32"])),
+        1 => Cow::Borrowed(random.pick(&["0", "1", "12u8", "3felt", "4u32", "0x1f", "0XAu32", "0o17felt", "0O7", "0b10", "0B1u8"])),
         2 | 3 => Cow::Borrowed(random.pick(&NAMES)),
         4 | 5 => Cow::Borrowed(random.pick(&KEYWORDS)),
         _ => Cow::Borrowed(random.pick(&MARKS)),
@@ -897,6 +924,10 @@ const LONG_RUNS: &[(&str, &str, &str)] = &[
     ("const A=", "(", ";"),
     ("const A=", "[", ";"),
     ("const A=1u8", "+1u8", ";"),
+    ("const A=0b1", "+0O7+0xf", ";"),
+    ("const A=[", "0X1felt,", "];"),
+    ("const A=[", "[a;0B1],", "];"),
+    ("const A=a", ".0x1", ";"),
     ("const A:T", "*", "=1;"),
     ("const A:(", "T,", ")=1;"),
     ("const A:", "[", "=1;"),
@@ -963,6 +994,10 @@ fn spine(random: &mut Random) -> Vec<Word> {
 
 // ---- the texts of a run
 
+/// What stands around a numeral: of a literal first, then of counts and of a tuple index.
+const NUMERAL_PLACES: [(&str, &str); 4] =
+    [("const A =", ";"), ("const A : [ T ;", "] = a ;"), ("const A = [ a ;", "] ;"), ("const A = t .", ";")];
+
 /// Text `number` of the run with this seed.
 pub fn text(seed: u64, number: u64) -> Vec<u8> {
     let random = &mut Random::new(seed, number);
@@ -979,7 +1014,7 @@ pub fn text(seed: u64, number: u64) -> Vec<u8> {
         880..=994 => 150 + random.below(700),
         _ => 850 + random.below(6000),
     };
-    let mut words = match random.below(40) {
+    let mut words = match random.below(41) {
         0..=23 => program(random, size),
         24..=32 => deep(random),
         33..=35 => {
@@ -993,13 +1028,16 @@ pub fn text(seed: u64, number: u64) -> Vec<u8> {
                 borrowed(head).chain(soup).chain(borrowed(tail)).collect()
             }
         }
-        36 | 37 => {
+        36..=38 => {
             let mut words: Vec<Word> = Vec::new();
+            // literals, or counts and tuple indices among them
+            let literals = random.one_in(2);
             for _ in 0..1 + random.below(6) {
-                let numeral = Cow::Owned(odd_numeral(random));
-                words.extend(["const", "A", "="].map(Cow::Borrowed));
-                words.push(numeral);
-                words.push(Cow::Borrowed(";"));
+                let (head, tail) = if literals { NUMERAL_PLACES[0] } else { random.pick(&NUMERAL_PLACES) };
+                let numeral = if literals || random.one_in(3) { odd_numeral(random) } else { any_base(random) };
+                words.extend(head.split_ascii_whitespace().map(Cow::Borrowed));
+                words.push(Cow::Owned(numeral));
+                words.extend(tail.split_ascii_whitespace().map(Cow::Borrowed));
             }
             words
         }
@@ -1022,18 +1060,18 @@ pub fn text(seed: u64, number: u64) -> Vec<u8> {
 const FRAMES: &[(&str, &str, [&str; 16])] = &[
     ("fn f(){", "}", ["a", "1", "(", ")", "{", "}", "[", "]", ",", ";", "=", ".", "-", "if", "else", "let"]),
     ("fn f(){", "}", ["a", "2u8", "(", ")", "{", "}", "[", "]", ";", ":", "*", "as", "new", "return", "while", "loop"]),
-    ("fn f(){for(", "}", ["a", "1", "(", ")", "{", "}", ",", ";", "=", ":", "let", "for", "break", "continue", "const", "in"]),
+    ("fn f(){for(", "}", ["a", "0x1", "(", ")", "{", "}", ",", ";", "=", ":", "let", "for", "break", "continue", "const", "in"]),
     ("fn f(){if ", "}", ["a", "1", "(", ")", "{", "}", "[", "]", ",", ";", ":", "==", "else", "if", ".", "!"]),
-    ("fn f(){if (a", ") b;}", ["a", "1", "(", ")", "{", "}", "[", "]", ",", ";", ":", "==", "else", "if", "=", "!"]),
-    ("fn f(){while a", "{}}", ["a", "1", "(", ")", "{", "}", "[", "]", ",", ";", ":", "+", "while", "if", ".", "!"]),
+    ("fn f(){if (a", ") b;}", ["a", "0B1", "(", ")", "{", "}", "[", "]", ",", ";", ":", "==", "else", "if", "=", "!"]),
+    ("fn f(){while a", "{}}", ["a", "0o1", "(", ")", "{", "}", "[", "]", ",", ";", ":", "+", "while", "if", ".", "!"]),
     ("fn f(){if a b; else ", "c;}", ["a", "1", "if", "else", "{", "}", ";", "(", ")", "[", "]", "=", "loop", "while", "-", ","]),
-    ("const A = [", "];", ["a", "1", "3u8", "[", "]", "(", ")", "{", "}", ",", ";", ":", "+", "-", ".", "as"]),
-    ("const A = a(", ");", ["a", "1", "3u8", "[", "]", "(", ")", "{", "}", ",", ";", ":", "+", "-", ".", "new"]),
-    ("const A = S{a:", "};", ["a", "1", "3u8", "[", "]", "(", ")", "{", "}", ",", ";", ":", "+", "-", ".", "b"]),
-    ("const A = ", ";", ["a", "1", "3u8", "true", "(", ")", "{", "}", "[", "]", ",", ";", ":", ".", "-", "&&"]),
-    ("const A = a ", ";", ["a", "1", "2u32", "+", "*", "<", "==", "&", "||", "!", "-", "as", "(", ")", ".", "["]),
-    ("const A: ", " = 1;", ["a", "felt", "u32", "bool", "1", "2u32", "(", ")", "[", "]", ",", ";", "*", "-", "=", ":"]),
-    ("const A = new ", "[1];", ["a", "felt", "1", "2u32", "(", ")", "[", "]", ",", ";", "*", "-", "{", "}", ":", "new"]),
+    ("const A = [", "];", ["a", "0b1", "3u8", "[", "]", "(", ")", "{", "}", ",", ";", ":", "+", "-", ".", "as"]),
+    ("const A = a(", ");", ["a", "0X1", "3u8", "[", "]", "(", ")", "{", "}", ",", ";", ":", "+", "-", ".", "new"]),
+    ("const A = S{a:", "};", ["a", "1", "0x3u8", "[", "]", "(", ")", "{", "}", ",", ";", ":", "+", "-", ".", "b"]),
+    ("const A = ", ";", ["a", "0O7", "3u8", "true", "(", ")", "{", "}", "[", "]", ",", ";", ":", ".", "-", "&&"]),
+    ("const A = a ", ";", ["a", "1", "0b1u32", "+", "*", "<", "==", "&", "||", "!", "-", "as", "(", ")", ".", "["]),
+    ("const A: ", " = 1;", ["a", "felt", "u32", "bool", "0x1", "0b1u32", "(", ")", "[", "]", ",", ";", "*", "-", "=", ":"]),
+    ("const A = new ", "[1];", ["a", "felt", "0o1", "2u32", "(", ")", "[", "]", ",", ";", "*", "-", "{", "}", ":", "new"]),
     ("fn f(){let ", "= 1;}", ["a", "1", "(", ")", "[", "]", ",", ";", "*", ":", "=", "let", "{", "}", "-", "T"]),
     ("", "", ["a", "1", "fn", "struct", "const", "use", "(", ")", "{", "}", ",", ";", ":", "::", "=", "->"]),
     ("fn ", "{}", ["a", "1", "fn", "struct", "T", "*", "(", ")", "{", "}", ",", ";", ":", "[", "]", "->"]),

@@ -2,7 +2,7 @@
 //!
 //! The rules below are parser.rs's combinators, one for one, with nothing decided by a look ahead and nothing kept from a dropped
 //! attempt. They give outcome 0, 5, 7 or 8 and the unknown suffixes, slowly, and no tree. That holds `reader.rs` to the order of
-//! choice and to the nests of all attempts; its trees are held against the library's.
+//! choice and to the nests of all attempts; its trees are held against the library's. parser.rs has no bases, so they are left out.
 
 // the run alone uses the rest of them
 #[allow(dead_code)]

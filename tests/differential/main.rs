@@ -10,7 +10,7 @@ mod generate;
 mod reader;
 
 use generate::Random;
-use reader::{Answer, Diagnostic, Entry, Node, Token};
+use reader::{Answer, Diagnostic, Entry, Node, NodeKind, Token};
 use std::ffi::c_void;
 use std::process::ExitCode;
 use std::time::{Duration, Instant};
@@ -24,7 +24,14 @@ struct Record {
 }
 
 extern "C" {
-    fn cairo_m_numeral(spelling: *const u8, length: usize, value: *mut u64, suffix: *mut u8, reason: *mut u8) -> u32;
+    fn cairo_m_numeral(
+        spelling: *const u8,
+        length: usize,
+        value: *mut u64,
+        suffix: *mut u8,
+        base: *mut u8,
+        reason: *mut u8,
+    ) -> u32;
     fn cairo_m_lex(
         text: *const u8,
         length: usize,
@@ -152,6 +159,8 @@ impl TextPages {
 
 // ---- the comparison
 
+const BASES: [usize; 4] = [2, 8, 10, 16];
+
 /// What has been seen so far.
 #[derive(Default)]
 struct Seen {
@@ -162,6 +171,10 @@ struct Seen {
     listings: [u64; 12],
     numerals: [u64; 10],
     spellings: u64,
+    /// By base: literals and counts of the trees compared, and numerals that the entry accepted.
+    literals: [u64; 17],
+    counts: [u64; 17],
+    entry_bases: [u64; 17],
 }
 
 struct Desk {
@@ -289,6 +302,10 @@ impl Desk {
             return Err(answer("the text was written"));
         }
         self.seen.readings[outcome as usize] += 1;
+        for node in expected.nodes.iter().filter(|node| node.base > 0) {
+            let seen = if node.kind == NodeKind::Count { &mut self.seen.counts } else { &mut self.seen.literals };
+            seen[node.base as usize] += 1;
+        }
         Ok(())
     }
 
@@ -348,7 +365,12 @@ impl Desk {
             let mut nodes = vec![0; random.below(6 * Node::SIZE)];
             for node in nodes.chunks_mut(Node::SIZE) {
                 node.iter_mut().for_each(|byte| *byte = random.next() as u8);
-                node[0] = if random.one_in(12) { random.pick(&[0, 43, 44, 255]) } else { 1 + random.below(42) as u8 };
+                node[0] = match random.below(12) {
+                    0 => random.pick(&[0, 43, 44, 255]),
+                    // the kinds with a base, which may be any byte here
+                    1..=3 => 6 + random.below(4) as u8,
+                    _ => 1 + random.below(42) as u8,
+                };
                 if node.len() == Node::SIZE {
                     let value = random.next() >> random.below(64);
                     node[8..].copy_from_slice(&value.to_le_bytes());
@@ -411,10 +433,12 @@ impl Desk {
 
     fn compare_numeral(&mut self, spelling: &[u8]) -> Result<(), String> {
         let place = self.text.put(spelling);
-        let (mut value, mut suffix, mut reason) = (77, 77, 77);
-        let outcome = unsafe { cairo_m_numeral(place, spelling.len(), &mut value, &mut suffix, &mut reason) };
-        differ("numeral: outcome, value, suffix, reason", reader::numeral(spelling), (outcome, value, suffix, reason))?;
+        let (mut value, mut suffix, mut base, mut reason) = (77, 77, 77, 77);
+        let outcome = unsafe { cairo_m_numeral(place, spelling.len(), &mut value, &mut suffix, &mut base, &mut reason) };
+        let answer = (outcome, value, suffix, base, reason);
+        differ("numeral: outcome, value, suffix, base, reason", reader::numeral(spelling), answer)?;
         self.seen.numerals[outcome as usize] += 1;
+        self.seen.entry_bases[base as usize] += 1;
         Ok(())
     }
 
@@ -504,22 +528,36 @@ impl Desk {
         let seconds = start.elapsed().as_secs_f64();
         let rate = seen.texts as f64 / seconds;
         println!("{} texts of {} bytes in {seconds:.1} s, {rate:.0} texts per second", seen.texts, seen.bytes);
-        let counts = |counts: &[u64], outcomes: &[usize]| {
-            outcomes.iter().map(|&outcome| format!("{outcome}: {}", counts[outcome])).collect::<Vec<_>>().join(", ")
+        let counts = |counts: &[u64], numbers: &[usize]| {
+            numbers.iter().map(|&number| format!("{number}: {}", counts[number])).collect::<Vec<_>>().join(", ")
         };
         println!("readings by outcome   {}", counts(&seen.readings, &[0, 1, 2, 3, 4, 5, 6, 7, 8]));
         println!("lexings by outcome    {}", counts(&seen.lexings, &[0, 1, 2, 3, 4]));
         println!("listings by outcome   {}", counts(&seen.listings, &[0, 10, 11]));
         println!("numerals by outcome   {}", counts(&seen.numerals, &[0, 1, 3, 9]));
         println!("spellings             {}", seen.spellings);
+        println!("literals by base      {}", counts(&seen.literals, &BASES));
+        println!("counts by base        {}", counts(&seen.counts, &BASES));
+        println!("numerals by base      {}", counts(&seen.entry_bases, &BASES));
+    }
+
+    /// Whether every outcome of a reading and every base was seen.
+    fn covered(&self) -> bool {
+        let seen = &self.seen;
+        let every_base = |counts: &[u64]| BASES.iter().all(|&base| counts[base] > 0);
+        seen.readings.iter().all(|&count| count > 0)
+            && every_base(&seen.literals)
+            && every_base(&seen.counts)
+            && every_base(&seen.entry_bases)
     }
 }
 
-/// 01's texts on the edge, and one at least for each outcome.
+/// 01's texts on the edge, one at least for each outcome, and numerals of every base.
 fn edge_texts() -> Vec<Vec<u8>> {
     let mut texts: Vec<Vec<u8>> = [
         "", "const A = 1;", "@", "const A = f( );", "const A = 0x1felt;", "0b12 0x 12u32x 1felt2 99999999999999999999felt2",
-        "const A = 18446744073709551615;", "const A = 18446744073709551616;",
+        "const A = 18446744073709551615;", "const A = 18446744073709551616;", "const A = [0X1fu32, 0o17, 0B101felt, 10];",
+        "const A: [[T; 0b11]; 0O7] = [t.0x10; 0XA];", "0x1 0X2felt 0o3 0O4u32 0b1 0B0u8 0_x 00x1 t.0b1",
     ]
     .map(|text| text.as_bytes().to_vec())
     .to_vec();
@@ -573,9 +611,9 @@ fn run(seconds: u64, seed: u64) -> bool {
     }
     println!("seed {seed}: generated texts 0 to {} and 01's texts on the edge, no difference", number - 1);
     desk.report(start);
-    let covered = desk.seen.readings.iter().all(|&count| count > 0);
+    let covered = desk.covered();
     if !covered {
-        println!("not every outcome of a reading was seen");
+        println!("not every outcome of a reading, or not every base, was seen");
     }
     covered
 }

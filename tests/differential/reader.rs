@@ -154,6 +154,8 @@ pub struct Token {
     pub suffix: u8,
     pub span: Span,
     pub value: u64,
+    /// 2, 8, 10 or 16 for a numeral, else 0.
+    pub base: u8,
 }
 
 #[derive(Clone, Copy, Debug, PartialEq, Eq)]
@@ -162,6 +164,8 @@ pub struct Node {
     pub span: Span,
     pub children: u16,
     pub value: u64,
+    /// That of the numeral for a Count or a literal, else 0.
+    pub base: u8,
 }
 
 #[derive(Clone, Copy, Debug, PartialEq, Eq)]
@@ -200,6 +204,7 @@ impl Entry for Token {
         bytes[1] = self.suffix;
         bytes[2..4].copy_from_slice(&self.span.start.to_le_bytes());
         bytes[4..6].copy_from_slice(&self.span.end.to_le_bytes());
+        bytes[6] = self.base;
         bytes[8..16].copy_from_slice(&self.value.to_le_bytes());
     }
 }
@@ -208,6 +213,7 @@ impl Entry for Node {
     const SIZE: usize = 16;
     fn lay(&self, bytes: &mut [u8]) {
         bytes[0] = self.kind as u8;
+        bytes[1] = self.base;
         bytes[2..4].copy_from_slice(&self.span.start.to_le_bytes());
         bytes[4..6].copy_from_slice(&self.span.end.to_le_bytes());
         bytes[6..8].copy_from_slice(&self.children.to_le_bytes());
@@ -239,8 +245,8 @@ const fn is_word_byte(byte: u8) -> bool {
     byte.is_ascii_alphanumeric() || byte == b'_'
 }
 
-/// `parse_number_literal`: value and suffix of a numeral's spelling, or the reason why it has none.
-fn parse_number(spelling: &str) -> Result<(u64, u8), u8> {
+/// `parse_number_literal`: value and suffix of a numeral's spelling, and the base of its digits, or the reason why it has none.
+fn parse_number(spelling: &str) -> Result<(u64, u8, u8), u8> {
     let (rest, base) = match spelling.as_bytes() {
         [b'0', b'x' | b'X', ..] => (&spelling[2..], 16),
         [b'0', b'o' | b'O', ..] => (&spelling[2..], 8),
@@ -273,24 +279,24 @@ fn parse_number(spelling: &str) -> Result<(u64, u8), u8> {
         _ => 3,
     };
     match u64::from_str_radix(number, base) {
-        Ok(value) => Ok((value, suffix)),
+        Ok(value) => Ok((value, suffix, base as u8)),
         Err(error) if *error.kind() == std::num::IntErrorKind::PosOverflow => Err(REASON_OVERFLOW),
         Err(_) => Err(REASON_FORMAT),
     }
 }
 
-/// The numeral entry: outcome, value, suffix and reason.
-pub fn numeral(spelling: &[u8]) -> (u32, u64, u8, u8) {
+/// The numeral entry: outcome, value, suffix, base and reason.
+pub fn numeral(spelling: &[u8]) -> (u32, u64, u8, u8, u8) {
     if spelling.len() > LONGEST_TEXT {
-        return (LONG, 0, 0, 0);
+        return (LONG, 0, 0, 0, 0);
     }
     // either a base's letter or a name follows the digits, so a spelling is a digit and then any bytes of words
     if !spelling.first().is_some_and(u8::is_ascii_digit) || !spelling.iter().all(|&byte| is_word_byte(byte)) {
-        return (SPELLING, 0, 0, 0);
+        return (SPELLING, 0, 0, 0, 0);
     }
     match parse_number(std::str::from_utf8(spelling).unwrap()) {
-        Ok((value, suffix)) => (ACCEPTED, value, suffix, 0),
-        Err(reason) => (LEXICAL, 0, 0, reason),
+        Ok((value, suffix, base)) => (ACCEPTED, value, suffix, base, 0),
+        Err(reason) => (LEXICAL, 0, 0, 0, reason),
     }
 }
 
@@ -380,10 +386,12 @@ fn tokens_of(text: &str) -> (Vec<Token>, Vec<Diagnostic>) {
                 }
                 let span = span_to(at);
                 if !first.is_ascii_digit() {
-                    tokens.push(Token { kind: word_kind(&bytes[start..at]), suffix: 0, span, value: 0 });
+                    tokens.push(Token { kind: word_kind(&bytes[start..at]), suffix: 0, span, value: 0, base: 0 });
                 } else {
                     match parse_number(&text[start..at]) {
-                        Ok((value, suffix)) => tokens.push(Token { kind: TokenKind::LiteralNumber, suffix, span, value }),
+                        Ok((value, suffix, base)) => {
+                            tokens.push(Token { kind: TokenKind::LiteralNumber, suffix, span, value, base });
+                        }
                         Err(reason) => errors.push(Diagnostic { span, reason }),
                     }
                 }
@@ -395,7 +403,7 @@ fn tokens_of(text: &str) -> (Vec<Token>, Vec<Diagnostic>) {
                 }
                 (kind, length) => {
                     at += length;
-                    tokens.push(Token { kind, suffix: 0, span: span_to(at), value: 0 });
+                    tokens.push(Token { kind, suffix: 0, span: span_to(at), value: 0, base: 0 });
                 }
             },
         }
@@ -511,7 +519,12 @@ impl Reader<'_> {
     }
 
     fn push(&mut self, kind: NodeKind, span: Span, children: usize, value: u64) {
-        self.nodes.push(Node { kind, span, children: children as u16, value });
+        self.nodes.push(Node { kind, span, children: children as u16, value, base: 0 });
+    }
+
+    /// A Count or a literal: these alone say how their numeral was written.
+    fn push_numeral(&mut self, kind: NodeKind, token: Token) {
+        self.nodes.push(Node { kind, span: token.span, children: 0, value: token.value, base: token.base });
     }
 
     /// From the token at `first` to the last one taken.
@@ -583,7 +596,7 @@ impl Reader<'_> {
             return Err(Stop::Fail);
         }
         self.nodes.pop();
-        self.push(NodeKind::Count, token.span, 0, token.value);
+        self.push_numeral(NodeKind::Count, token);
         self.take(TokenKind::RBrack)?;
         let span = self.span_from(first);
         self.push(NodeKind::FixedArray, span, 2, 0);
@@ -753,7 +766,7 @@ impl Reader<'_> {
         if token.suffix == 3 {
             self.errors.push(Diagnostic { span: token.span, reason: REASON_SUFFIX });
         }
-        self.push(kind, token.span, 0, token.value);
+        self.push_numeral(kind, token);
         Ok(token.span)
     }
 
@@ -796,7 +809,7 @@ impl Reader<'_> {
                 if length.suffix != 0 {
                     return Err(Stop::Fail);
                 }
-                self.push(NodeKind::Count, length.span, 0, length.value);
+                self.push_numeral(NodeKind::Count, length);
                 let span = self.span_from(first);
                 self.push(NodeKind::ArrayRepeat, span, 2, 0);
                 return Ok(span);
@@ -1159,7 +1172,12 @@ fn json_of_nodes(nodes: &[u8]) -> Option<String> {
         let comma = if i == 0 { "" } else { "," };
         let (start, end, children) = (number(&node[2..4]), number(&node[4..6]), number(&node[6..8]));
         let value = number(&node[8..16]);
-        write!(json, "{comma}[\"{word}\",{start},{end},{children},{value}]").unwrap();
+        write!(json, "{comma}[\"{word}\",{start},{end},{children},{value}").unwrap();
+        // a Count or a literal: the base, as it stands in the table
+        if matches!(*word, "Count" | "Literal" | "LiteralFelt" | "LiteralU32") {
+            write!(json, ",{}", node[1]).unwrap();
+        }
+        json.push(']');
     }
     json.push(']');
     Some(json)
@@ -1242,15 +1260,15 @@ mod tests {
     #[test]
     fn bracketed_texts_on_the_edge() {
         assert_eq!(listing(""), "[]");
-        assert_eq!(listing("const A = 1;"), r#"[["Name",6,7,0,0],["Literal",10,11,0,1],["Const",0,12,2,0]]"#);
+        assert_eq!(listing("const A = 1;"), r#"[["Name",6,7,0,0],["Literal",10,11,0,1,10],["Const",0,12,2,0]]"#);
         assert_eq!(listing("@"), r#"{"refused":3,"diagnostics":[[0,1,1]]}"#);
-        assert_eq!(numeral(b"0x1felt"), (0, 1, 1, 0));
+        assert_eq!(numeral(b"0x1felt"), (0, 1, 1, 16, 0));
         for text in ["0b12", "0x", "12u32x", "1felt2"] {
-            assert_eq!(numeral(text.as_bytes()), (3, 0, 0, 3), "{text}");
+            assert_eq!(numeral(text.as_bytes()), (3, 0, 0, 0, 3), "{text}");
         }
-        assert_eq!(numeral(b"18446744073709551615"), (0, u64::MAX, 0, 0));
-        assert_eq!(numeral(b"18446744073709551616"), (3, 0, 0, 2));
-        assert_eq!(numeral(b"99999999999999999999felt2"), (3, 0, 0, 2));
+        assert_eq!(numeral(b"18446744073709551615"), (0, u64::MAX, 0, 10, 0));
+        assert_eq!(numeral(b"18446744073709551616"), (3, 0, 0, 0, 2));
+        assert_eq!(numeral(b"99999999999999999999felt2"), (3, 0, 0, 0, 2));
         assert_eq!(body("if x {}"), 7);
         assert_eq!(body("if (x) {}"), 0);
         assert_eq!(
@@ -1264,6 +1282,65 @@ mod tests {
         assert_eq!(body("let (a) = b;"), 7);
         assert_eq!(body("[1; 3u32];"), 7);
         assert_eq!(body("12u8;"), 8);
+    }
+
+    #[test]
+    fn bases() {
+        for (text, value, suffix, base) in [
+            ("0", 0, 0, 10),
+            ("007", 7, 0, 10),
+            ("101u32", 101, 2, 10),
+            ("9felt", 9, 1, 10),
+            ("0_x", 0, 3, 10),
+            ("0e5", 0, 3, 10),
+            ("00x1", 0, 3, 10),
+            ("10b1", 10, 3, 10),
+            ("0x0", 0, 0, 16),
+            ("0XfFu32", 255, 2, 16),
+            ("0xffelt", 15, 1, 16),
+            ("0xb1u8", 177, 3, 16),
+            ("0o17", 15, 0, 8),
+            ("0O17felt", 15, 1, 8),
+            ("0b101", 5, 0, 2),
+            ("0B101u32", 5, 2, 2),
+        ] {
+            assert_eq!(numeral(text.as_bytes()), (0, value, suffix, base, 0), "{text}");
+        }
+        for (text, reason) in [("0X", 3), ("0o8", 3), ("0B", 3), ("0xg", 3), ("0xfelt", 3), ("0x10000000000000000", 2)] {
+            assert_eq!(numeral(text.as_bytes()), (3, 0, 0, 0, reason), "{text}");
+        }
+        assert_eq!(numeral(b"x1"), (9, 0, 0, 0, 0));
+        assert_eq!(numeral(&[b'0'; 65_536]), (1, 0, 0, 0, 0));
+        // a tuple index is a numeral's token, and its node has no base
+        assert_eq!(
+            body_listing("[0X1felt;0b11];(t.0o7)[2u32];"),
+            r#"[["LiteralFelt",1,8,0,1,16],["Count",9,13,0,3,2],["ArrayRepeat",0,14,2,0],["ExprStmt",0,15,1,0],["Identifier",16,17,0,0],["TupleIndex",16,21,1,7],["Paren",15,22,1,0],["LiteralU32",23,27,0,2,10],["Index",15,27,2,0],["ExprStmt",15,29,1,0]]"#
+        );
+        assert_eq!(
+            listing("const A:[T;0O17]=1;"),
+            r#"[["Name",6,7,0,0],["Named",9,10,0,3],["Count",11,15,0,15,8],["FixedArray",8,16,2,0],["Literal",17,18,0,1,10],["Const",0,19,3,1]]"#
+        );
+    }
+
+    #[test]
+    fn bytes_of_the_tables() {
+        let answer = read(b"const A=t.0x10+0B1felt;", ENOUGH, ENOUGH);
+        assert_eq!(table(&answer.tokens[4..6], 33), [
+            50, 0, 9, 0, 10, 0, 0, 0, 0, 0, 0, 0, 0, 0, 0, 0, 1, 0, 10, 0, 14, 0, 16, 0, 16, 0, 0, 0, 0, 0, 0, 0, 0,
+        ]);
+        assert_eq!(table(&answer.tokens[7..8], 16), [1, 1, 15, 0, 22, 0, 2, 0, 1, 0, 0, 0, 0, 0, 0, 0]);
+        assert_eq!(table(&answer.nodes[2..4], 32), [
+            19, 0, 8, 0, 14, 0, 1, 0, 16, 0, 0, 0, 0, 0, 0, 0, 8, 2, 15, 0, 22, 0, 0, 0, 1, 0, 0, 0, 0, 0, 0, 0,
+        ]);
+        // the listing prints a base as it stands, on four kinds alone
+        let entry = |kind: u8, base: u8| [kind, base, 1, 0, 2, 0, 3, 0, 4, 0, 0, 0, 0, 0, 0, 0];
+        for kind in 1..=42 {
+            for base in [0, 10, 77, 255] {
+                let word = NODE_WORDS[kind as usize - 1];
+                let sixth = if (6..=9).contains(&kind) { format!(",{base}") } else { String::new() };
+                assert_eq!(list(&entry(kind, base), ENOUGH), (0, format!("[[\"{word}\",1,2,3,4{sixth}]]")));
+            }
+        }
     }
 
     #[test]
@@ -1308,15 +1385,15 @@ mod tests {
     fn spans() {
         assert_eq!(
             body_listing("-f(x).y[2] as u32;"),
-            r#"[["Identifier",1,2,0,0],["Identifier",3,4,0,0],["Call",1,4,2,0],["Name",6,7,0,0],["Member",1,7,2,0],["Literal",8,9,0,2],["Index",1,9,2,0],["Unary",0,9,1,1],["Named",14,17,0,2],["Cast",0,17,2,0],["ExprStmt",0,18,1,0]]"#
+            r#"[["Identifier",1,2,0,0],["Identifier",3,4,0,0],["Call",1,4,2,0],["Name",6,7,0,0],["Member",1,7,2,0],["Literal",8,9,0,2,10],["Index",1,9,2,0],["Unary",0,9,1,1],["Named",14,17,0,2],["Cast",0,17,2,0],["ExprStmt",0,18,1,0]]"#
         );
         assert_eq!(
             body_listing("let(a,(b,c)):(T)* =1;"),
-            r#"[["Name",4,5,0,0],["Name",7,8,0,0],["Name",9,10,0,0],["PatternTuple",0,0,2,0],["PatternTuple",0,0,2,0],["Named",14,15,0,3],["Pointer",14,17,1,0],["Literal",19,20,0,1],["Let",0,21,3,1]]"#
+            r#"[["Name",4,5,0,0],["Name",7,8,0,0],["Name",9,10,0,0],["PatternTuple",0,0,2,0],["PatternTuple",0,0,2,0],["Named",14,15,0,3],["Pointer",14,17,1,0],["Literal",19,20,0,1,10],["Let",0,21,3,1]]"#
         );
         assert_eq!(
             body_listing("for(i=0;a;i=f(x))b;"),
-            r#"[["Identifier",4,5,0,0],["Literal",6,7,0,0],["Assign",4,8,2,0],["Identifier",8,9,0,0],["Identifier",10,11,0,0],["Identifier",12,13,0,0],["Identifier",14,15,0,0],["Call",12,15,2,0],["Assign",10,16,2,0],["Identifier",17,18,0,0],["ExprStmt",17,19,1,0],["For",0,19,4,0]]"#
+            r#"[["Identifier",4,5,0,0],["Literal",6,7,0,0,10],["Assign",4,8,2,0],["Identifier",8,9,0,0],["Identifier",10,11,0,0],["Identifier",12,13,0,0],["Identifier",14,15,0,0],["Call",12,15,2,0],["Assign",10,16,2,0],["Identifier",17,18,0,0],["ExprStmt",17,19,1,0],["For",0,19,4,0]]"#
         );
         assert_eq!(body("for(;;)x;"), 7);
     }

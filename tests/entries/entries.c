@@ -10,7 +10,7 @@
 
 uint32_t cairo_m_lex(const uint8_t *text, size_t len, uint8_t *tokens, size_t tokens_len, uint8_t *diagnostics,
                      size_t diagnostics_len, size_t *token_count, size_t *diagnostic_count);
-uint32_t cairo_m_numeral(const uint8_t *spelling, size_t len, uint64_t *value, uint8_t *suffix, uint8_t *reason);
+uint32_t cairo_m_numeral(const uint8_t *spelling, size_t len, uint64_t *value, uint8_t *suffix, uint8_t *base, uint8_t *reason);
 
 enum { GUARD = 0x5C, POISON = 0xAA, LONGEST_TEXT = 1 << 17, LARGEST_TABLE = 1 << 14 };
 
@@ -86,7 +86,7 @@ static size_t read_bytes(const char *at, uint8_t *text) {
     }
 }
 
-static struct lent text_room, token_room, diagnostic_room, count_room, count_room_2, suffix_room, reason_room;
+static struct lent text_room, token_room, diagnostic_room, count_room, count_room_2, suffix_room, base_room, reason_room;
 
 static void lend_text(const uint8_t *text, size_t n, int way) {
     lend(&text_room, n, way);
@@ -119,12 +119,12 @@ static void lex(FILE *out, const uint8_t *text, size_t n, size_t token_bytes, si
     size_t token_stray = nonzero(t + 16 * tokens, t + token_bytes);
     size_t diagnostic_stray = nonzero(d + 8 * diagnostics, d + diagnostic_bytes);
     for (size_t i = 0; i < tokens; i++)
-        token_stray += nonzero(t + 16 * i + 6, t + 16 * i + 8);
+        token_stray += t[16 * i + 7] != 0;
     for (size_t i = 0; i < diagnostics; i++)
         diagnostic_stray += nonzero(d + 8 * i + 5, d + 8 * i + 8);
     fprintf(out, "l %u %zu %zu %zu %zu", outcome, *token_count, *diagnostic_count, token_stray, diagnostic_stray);
     for (size_t i = 0; i < tokens; i++, t += 16)
-        fprintf(out, " t%u,%u,%u,%u,%llu", t[0], t[1], two(t + 2), two(t + 4), (unsigned long long)eight(t + 8));
+        fprintf(out, " t%u,%u,%u,%u,%llu,%u", t[0], t[1], two(t + 2), two(t + 4), (unsigned long long)eight(t + 8), t[6]);
     for (size_t i = 0; i < diagnostics; i++, d += 8)
         fprintf(out, " d%u,%u,%u", two(d), two(d + 2), d[4]);
     fputc('\n', out);
@@ -134,17 +134,19 @@ static void numeral(FILE *out, const uint8_t *text, size_t n, int way, size_t li
     lend_text(text, n, way);
     lend(&count_room, 8, way);
     lend(&suffix_room, 1, way);
+    lend(&base_room, 1, way);
     lend(&reason_room, 1, way);
     uint64_t *value = (uint64_t *)count_room.bytes;
-    uint8_t *suffix = suffix_room.bytes, *reason = reason_room.bytes;
-    uint32_t outcome = cairo_m_numeral(text_room.bytes, n, value, suffix, reason);
+    uint8_t *suffix = suffix_room.bytes, *base = base_room.bytes, *reason = reason_room.bytes;
+    uint32_t outcome = cairo_m_numeral(text_room.bytes, n, value, suffix, base, reason);
     see_text(text, n, line);
     see_guards(&count_room, line);
     see_guards(&suffix_room, line);
+    see_guards(&base_room, line);
     see_guards(&reason_room, line);
-    fprintf(out, "n %u %llu %u %u", outcome, (unsigned long long)*value, *suffix, *reason);
+    fprintf(out, "n %u %llu %u %u %u", outcome, (unsigned long long)*value, *suffix, *base, *reason);
     if (outcome == 0)
-        fprintf(out, " number %llu %u\n", (unsigned long long)*value, *suffix);
+        fprintf(out, " number %llu %u %u\n", (unsigned long long)*value, *suffix, *base);
     else if (outcome == 3)
         fprintf(out, " lexical %u\n", *reason);
     else
@@ -161,6 +163,7 @@ int main(int words, char **word) {
     count_room = make(1);
     count_room_2 = make(1);
     suffix_room = make(1);
+    base_room = make(1);
     reason_room = make(1);
     static uint8_t text[LONGEST_TEXT];
     char *line = NULL;

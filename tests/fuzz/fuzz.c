@@ -31,7 +31,7 @@ struct sizes {
     size_t tokens, nodes, diagnostics, records;
 };
 
-static struct lent text_room, token_room, node_room, diagnostic_room, list_room, out_room, count_rooms[3], byte_rooms[2];
+static struct lent text_room, token_room, node_room, diagnostic_room, list_room, out_room, count_rooms[3], byte_rooms[3];
 
 static void make_rooms(void) {
     if (text_room.pages != NULL)
@@ -44,7 +44,7 @@ static void make_rooms(void) {
     out_room = make(OUT_ROOM);
     for (int i = 0; i < 3; i++)
         count_rooms[i] = make(sizeof(size_t));
-    for (int i = 0; i < 2; i++)
+    for (int i = 0; i < 3; i++)
         byte_rooms[i] = make(1);
 }
 
@@ -166,22 +166,23 @@ static bool is_utf8(const uint8_t *text, size_t length) {
 struct numeral {
     uint32_t outcome;
     uint64_t value;
-    uint8_t suffix, reason;
+    uint8_t suffix, base, reason;
 };
 
 static struct numeral call_numeral(const uint8_t *spelling, size_t length, enum way way, uint8_t garbage) {
     struct numeral n;
     lend_bytes(&text_room, spelling, length, way);
     lend(&count_rooms[0], sizeof n.value, way, garbage);
-    for (int i = 0; i < 2; i++)
+    for (int i = 0; i < 3; i++)
         lend(&byte_rooms[i], 1, way, garbage);
-    n.outcome =
-        cairo_m_numeral(text_room.bytes, length, (uint64_t *)count_rooms[0].bytes, byte_rooms[0].bytes, byte_rooms[1].bytes);
+    n.outcome = cairo_m_numeral(text_room.bytes, length, (uint64_t *)count_rooms[0].bytes, byte_rooms[0].bytes, byte_rooms[1].bytes,
+                                byte_rooms[2].bytes);
     memcpy(&n.value, count_rooms[0].bytes, sizeof n.value);
     n.suffix = *byte_rooms[0].bytes;
-    n.reason = *byte_rooms[1].bytes;
+    n.base = *byte_rooms[1].bytes;
+    n.reason = *byte_rooms[2].bytes;
     give_back(&count_rooms[0]);
-    for (int i = 0; i < 2; i++)
+    for (int i = 0; i < 3; i++)
         give_back(&byte_rooms[i]);
     give_back_bytes(&text_room, spelling);
     return n;
@@ -201,10 +202,10 @@ static void check_diagnostics(const uint8_t *text, size_t length, uint32_t outco
         }
         struct numeral n = call_numeral(text + d->start, size, way, garbage);
         if (outcome == CAIRO_M_LEXICAL)
-            hold(n.outcome == CAIRO_M_LEXICAL && n.reason == d->reason && n.value == 0 && n.suffix == 0,
+            hold(n.outcome == CAIRO_M_LEXICAL && n.reason == d->reason && n.value == 0 && n.suffix == 0 && n.base == 0,
                  "a diagnostic is no wrong numeral");
         else
-            hold(d->reason == CAIRO_M_REASON_SUFFIX && n.outcome == 0 && n.suffix == CAIRO_M_SUFFIX_OTHER,
+            hold(d->reason == CAIRO_M_REASON_SUFFIX && n.outcome == 0 && n.suffix == CAIRO_M_SUFFIX_OTHER && n.base != 0,
                  "a diagnostic is no suffix");
     }
 }
@@ -215,7 +216,8 @@ static void check_numerals(const uint8_t *text, size_t length, enum way way, uin
         if (t->kind != CAIRO_M_TOKEN_LITERAL_NUMBER)
             continue;
         struct numeral n = call_numeral(text + t->start, t->end - t->start, way, garbage);
-        hold(n.outcome == 0 && n.value == t->value && n.suffix == t->suffix && n.reason == 0, "a numeral says another value");
+        hold(n.outcome == 0 && n.value == t->value && n.suffix == t->suffix && n.base == t->base && n.reason == 0,
+             "a numeral says another value");
     }
     // the text as a spelling
     struct numeral n = call_numeral(text, length, way, garbage);
@@ -229,7 +231,7 @@ static void check_numerals(const uint8_t *text, size_t length, enum way way, uin
         hold(n.outcome == CAIRO_M_LEXICAL && n.reason == d->reason, "a text that is a wrong numeral is not one");
     else
         hold(n.outcome == CAIRO_M_SPELLING, "a text that is no numeral is one");
-    hold(n.outcome == 0 || (n.value == 0 && n.suffix == 0), "a refused numeral has a value");
+    hold(n.outcome == 0 || (n.value == 0 && n.suffix == 0 && n.base == 0), "a refused numeral has a value");
     hold((n.reason != 0) == (n.outcome == CAIRO_M_LEXICAL), "a numeral has a reason that its outcome has not");
 }
 
@@ -404,6 +406,10 @@ static void check_listing(const cairo_m_node *nodes, size_t count) {
         uint64_t children = take_number();
         take(",");
         uint64_t value = take_number();
+        if (carries_base(nodes[i].kind)) {
+            take(",");
+            hold(take_number() == nodes[i].base, "a listing has another base");
+        }
         take("]");
         hold(start == nodes[i].start && end == nodes[i].end && children == nodes[i].children && value == nodes[i].value,
              "a listing has another number");

@@ -10,7 +10,8 @@ import sys
 ROOT = pathlib.Path(__file__).resolve().parents[2]
 LONGEST = 4000
 # read again and again up to each of the lengths that a head can choose
-REPEATED = [b"const A = 1;\n", b"fn f() { a = 1u8; } ", b"@ ", b"-", bytes([1, 0, 5, 0, 9, 0, 1, 0]) + bytes([255] * 8)]
+REPEATED = [b"const A = 1;\n", b"fn f() { a = 1u8; } ", b"@ ", b"-", bytes([1, 0, 5, 0, 9, 0, 1, 0]) + bytes([255] * 8),
+            b"const A: [T; 0x3] = [0b1; 0O7]; ", bytes([8] + [255] * 15)]
 
 
 def spelled(line, bases):

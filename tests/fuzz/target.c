@@ -45,10 +45,11 @@ static const char *const parts[] = {
     "as", "const", "else", "false", "fn", "if", "let", "new", "return", "struct", "true", "while", "loop", "for", "in", "break",
     "continue", "use", "!", "&&", "||", "&", "|", "^", "==", "!=", "<=", ">=", "<", ">", "+", "-", "*", "/", "%", "=", "->", "(", ")",
     "{", "}", "[", "]", ",", ";", ":", "::", ".", "a", "felt", "u32", "bool", "T", "_x9", "0", "1", "7u32", "8felt", "9u8", "0x1felt",
-    "0b12", "0o17", "0X1F", "18446744073709551615", "18446744073709551616", "99999999999999999999felt2", "// c\n", "//", "\xC3\xA9",
-    "\xF0\x9F\x8E\xAC", "@", "#", "()", "(,)", "(a, b)", "(a,)", "[1; 3]", "[1, 2]", "a[0]", "a.0", "a.b", "f()", "T { }", "T { x: 1 }",
-    "new T[1]", "a as felt", "-a", "!a", "let a = 1;", "let (a, (b, c)): T = d;", "const A: T* = 1;", "return;", "return a;", "a = b;",
-    "a;", "{ }", "if (a) { }", "if a == b { } else { }", "loop break;", "while (a) continue;", "for (let i = 0; i < 9; i = i + 1) { }",
+    "0b12", "0o17", "0X1F", "0b101", "0B1u32", "0O7felt", "0xFu8", "18446744073709551615", "18446744073709551616",
+    "99999999999999999999felt2", "// c\n", "//", "\xC3\xA9", "\xF0\x9F\x8E\xAC", "@", "#", "()", "(,)", "(a, b)", "(a,)", "[1; 3]",
+    "[1; 0b11]", "[1, 2]", "a[0]", "a.0", "a.0x1", "a.b", "f()", "T { }", "T { x: 1 }", "new T[1]", "a as felt", "-a", "!a",
+    "let a = 1;", "let (a, (b, c)): T = d;", "const A: T* = 1;", "const A: [T; 0x3] = 1;", "return;", "return a;", "a = b;", "a;",
+    "{ }", "if (a) { }", "if a == b { } else { }", "loop break;", "while (a) continue;", "for (let i = 0; i < 9; i = i + 1) { }",
     "fn f() { }", "fn f(a: T, b: [felt; 3]) -> (T, T*) { }", "struct S { x: T, }", "use a::b;", "use a::b::{c, d};", "const A = 1;"};
 
 enum { PARTS = sizeof parts / sizeof parts[0] };

@@ -83,11 +83,27 @@ static size_t skipped(const uint8_t *text, size_t length, size_t at) {
     return at;
 }
 
+static uint8_t base_of(const uint8_t *text, const cairo_m_token *numeral) {
+    if (numeral->end - numeral->start < 2 || text[numeral->start] != '0')
+        return 10;
+    switch (text[numeral->start + 1]) {
+    case 'x':
+    case 'X': return 16;
+    case 'o':
+    case 'O': return 8;
+    case 'b':
+    case 'B': return 2;
+    default: return 10;
+    }
+}
+
 static void check_token(const uint8_t *text, size_t length, const cairo_m_token *t) {
     if (t->kind < 1 || t->kind > TOKEN_KINDS || t->zero != 0 || t->suffix > CAIRO_M_SUFFIX_OTHER)
         fail("a token has numbers out of range");
-    if (t->kind != CAIRO_M_TOKEN_LITERAL_NUMBER && (t->suffix != 0 || t->value != 0))
+    if (t->kind != CAIRO_M_TOKEN_LITERAL_NUMBER && (t->suffix != 0 || t->value != 0 || t->base != 0))
         fail("a token that is no numeral has a value");
+    if (t->kind == CAIRO_M_TOKEN_LITERAL_NUMBER && t->base != base_of(text, t))
+        fail("a numeral has another base than its spelling");
     if (t->kind == CAIRO_M_TOKEN_LITERAL_NUMBER || t->kind == CAIRO_M_TOKEN_IDENTIFIER) {
         if (is_digit(text[t->start]) != (t->kind == CAIRO_M_TOKEN_LITERAL_NUMBER))
             fail("a numeral does not begin with a digit, or a name does");
@@ -125,6 +141,8 @@ const char *const node_names[NODE_KINDS + 1] = {
     "Tuple",      "TupleIndex", "Array",      "ArrayRepeat", "Cast",      "New",        "Paren",  "PatternTuple", "Let",
     "Const",      "Assign",     "Return",     "If",          "ExprStmt",  "Block",      "Loop",   "While",        "For",
     "Break",      "Continue",   "Param",      "Function",    "StructDef", "UseSingle",  "UseList"};
+
+bool carries_base(uint8_t kind) { return kind >= CAIRO_M_NODE_COUNT && kind <= CAIRO_M_NODE_LITERAL_U32; }
 
 // A sort of nodes, as a letter: n Name, c Count, d Named, p Param, T type, E expression, P pattern, S statement, I item,
 // f a for's init, s its step.
@@ -264,8 +282,22 @@ static void check_span(const cairo_m_node *nodes, const size_t *children, const 
     }
 }
 
+// `first` is the token that the node begins with.
+static void check_base(const cairo_m_node *n, const cairo_m_token *first) {
+    if (!carries_base(n->kind)) {
+        if (n->base != 0)
+            fail("a node that is no count and no literal has a base");
+        return;
+    }
+    if (first->kind != CAIRO_M_TOKEN_LITERAL_NUMBER || n->end != first->end || n->value != first->value || n->base != first->base)
+        fail("a count or a literal is not its numeral");
+    if (n->base != 2 && n->base != 8 && n->base != 10 && n->base != 16)
+        fail("a count or a literal has no base");
+}
+
 void check_nodes(size_t length, const cairo_m_token *tokens, size_t token_count, const cairo_m_node *nodes, size_t count) {
     static uint8_t starts[CAIRO_M_LONGEST_TEXT + 1], ends[CAIRO_M_LONGEST_TEXT + 1];
+    static const cairo_m_token *token_at[CAIRO_M_LONGEST_TEXT + 1];
     static size_t roots[CAIRO_M_LONGEST_TEXT];
     if (length > CAIRO_M_LONGEST_TEXT || count > token_count)
         fail("too long a text, or more nodes than tokens");
@@ -274,11 +306,12 @@ void check_nodes(size_t length, const cairo_m_token *tokens, size_t token_count,
     for (size_t i = 0; i < token_count; i++) {
         starts[tokens[i].start] = 1;
         ends[tokens[i].end] = 1;
+        token_at[tokens[i].start] = &tokens[i];
     }
     size_t depth = 0, at = 0;
     for (size_t i = 0; i < count; i++) {
         const cairo_m_node *n = &nodes[i];
-        if (n->kind < 1 || n->kind > NODE_KINDS || n->zero != 0 || n->value > shapes[n->kind].most)
+        if (n->kind < 1 || n->kind > NODE_KINDS || n->value > shapes[n->kind].most)
             fail("a node has numbers out of range");
         if (n->children > depth)
             fail("a node has more children than stand before it");
@@ -287,6 +320,7 @@ void check_nodes(size_t length, const cairo_m_token *tokens, size_t token_count,
         if (!has_shape(nodes, children, n))
             fail("a node has other children than its kind");
         check_span(nodes, children, n, length, starts, ends);
+        check_base(n, token_at[n->start]);
         for (size_t j = 0; j < n->children; j++)
             pairs_seen[n->kind * (NODE_KINDS + 1) + nodes[children[j]].kind] = 1;
         roots[depth++] = i;

@@ -1,6 +1,7 @@
-// Compares cairo_m_numeral with parse_number_literal of lexer.rs, which is compiled here unchanged.
+// Compares cairo_m_numeral with parse_number_literal of lexer.rs, which is compiled here unchanged, and its base with the spelling.
 //
-//   numerals LENGTH COUNT    every string of up to LENGTH letters, then COUNT random ones of up to 40 bytes
+//   numerals LENGTH COUNT    every string of up to LENGTH letters, a leading 0x, 0o or 0b also with its letter in upper case,
+//                            then COUNT random ones of up to 40 bytes
 
 use std::marker::PhantomData;
 
@@ -21,7 +22,14 @@ mod reference {
 }
 
 extern "C" {
-    fn cairo_m_numeral(spelling: *const u8, len: usize, value: *mut u64, suffix: *mut u8, reason: *mut u8) -> u32;
+    fn cairo_m_numeral(
+        spelling: *const u8,
+        len: usize,
+        value: *mut u64,
+        suffix: *mut u8,
+        base: *mut u8,
+        reason: *mut u8,
+    ) -> u32;
 }
 
 #[derive(Debug, PartialEq, Eq, Clone, Copy)]
@@ -32,10 +40,12 @@ struct Answer {
     reason: u8,
 }
 
-fn ours(spelling: &[u8]) -> Answer {
-    let (mut value, mut suffix, mut reason) = (0xAAAA_AAAA_AAAA_AAAA, 0xAA, 0xAA);
-    let outcome = unsafe { cairo_m_numeral(spelling.as_ptr(), spelling.len(), &mut value, &mut suffix, &mut reason) };
-    Answer { outcome, value, suffix, reason }
+// The answer, and the base beside it.
+fn ours(spelling: &[u8]) -> (Answer, u8) {
+    let (mut value, mut suffix, mut base, mut reason) = (0xAAAA_AAAA_AAAA_AAAA, 0xAA, 0xAA, 0xAA);
+    let outcome =
+        unsafe { cairo_m_numeral(spelling.as_ptr(), spelling.len(), &mut value, &mut suffix, &mut base, &mut reason) };
+    (Answer { outcome, value, suffix, reason }, base)
 }
 
 fn theirs(spelling: &[u8]) -> Answer {
@@ -56,6 +66,16 @@ fn theirs(spelling: &[u8]) -> Answer {
         Err(reference::LexingError::InvalidNumber { reason: reference::NumberParseError::Overflow, .. }) => refused(3, 2),
         Err(reference::LexingError::InvalidNumber { reason: reference::NumberParseError::InvalidFormat, .. }) => refused(3, 3),
         Err(other) => panic!("lexer.rs answers {other:?}, which never arises by 01"),
+    }
+}
+
+// What the first two bytes of a numeral say; lexer.rs hands out no base.
+fn base_of(spelling: &[u8]) -> u8 {
+    match (spelling[0], spelling.get(1)) {
+        (b'0', Some(b'x' | b'X')) => 16,
+        (b'0', Some(b'o' | b'O')) => 8,
+        (b'0', Some(b'b' | b'B')) => 2,
+        _ => 10,
     }
 }
 
@@ -81,6 +101,7 @@ fn is_name(s: &[u8]) -> bool {
 #[derive(Default)]
 struct Counts {
     numbers: u64,
+    by_base: [u64; 17],
     overflows: u64,
     formats: u64,
     others: u64,
@@ -89,24 +110,28 @@ struct Counts {
 
 impl Counts {
     fn compare(&mut self, spelling: &[u8]) {
-        let (a, b) = (ours(spelling), theirs(spelling));
+        let ((a, base), b) = (ours(spelling), theirs(spelling));
+        let base_owed = if b.outcome == 0 { base_of(spelling) } else { 0 };
+        self.by_base[base_owed as usize] += 1;
         match (b.outcome, b.reason) {
             (0, _) => self.numbers += 1,
             (3, 2) => self.overflows += 1,
             (3, _) => self.formats += 1,
             _ => self.others += 1,
         }
-        if a != b {
+        if a != b || base != base_owed {
             self.differences += 1;
             if self.differences <= 20 {
-                println!("numerals: {:?}: ours {a:?}, lexer.rs {b:?}", String::from_utf8_lossy(spelling));
+                let spelling = String::from_utf8_lossy(spelling);
+                println!("numerals: {spelling:?}: ours {a:?}, lexer.rs {b:?}; our base {base}, by the spelling {base_owed}");
             }
         }
     }
 
     fn say(&self, words: &str) {
-        let Counts { numbers, overflows, formats, others, differences } = self;
-        println!("numerals: {words}: {numbers} numbers, {overflows} overflows, {formats} format errors, {others} of no numeral; {differences} differ");
+        let Counts { numbers, by_base, overflows, formats, others, differences } = self;
+        let bases = [2, 8, 10, 16].map(|base: usize| format!("{} of base {base}", by_base[base])).join(", ");
+        println!("numerals: {words}: {numbers} numbers ({bases}), {overflows} overflows, {formats} format errors, {others} of no numeral; {differences} differ");
     }
 }
 
@@ -120,6 +145,10 @@ fn every(length: usize, counts: &mut Counts) {
                 *byte = LETTERS[(number >> (4 * place)) as usize & 15];
             }
             counts.compare(&text[..size]);
+            if size > 1 && text[0] == b'0' && matches!(text[1], b'x' | b'o' | b'b') {
+                text[1].make_ascii_uppercase();
+                counts.compare(&text[..size]);
+            }
         }
     }
 }

@@ -255,12 +255,12 @@ static void print_entries(FILE *out, size_t tokens, size_t nodes, size_t diagnos
     for (size_t i = 0; i < tokens; i++) {
         cairo_m_token t;
         memcpy(&t, token_room.bytes + i * sizeof t, sizeof t);
-        fprintf(out, "t %u,%u,%u,%u,%llu\n", t.kind, t.suffix, t.start, t.end, (unsigned long long)t.value);
+        fprintf(out, "t %u,%u,%u,%u,%llu,%u\n", t.kind, t.suffix, t.start, t.end, (unsigned long long)t.value, t.base);
     }
     for (size_t i = 0; i < nodes; i++) {
         cairo_m_node n;
         memcpy(&n, node_room.bytes + i * sizeof n, sizeof n);
-        fprintf(out, "n %u,%u,%u,%u,%llu\n", n.kind, n.start, n.end, n.children, (unsigned long long)n.value);
+        fprintf(out, "n %u,%u,%u,%u,%llu,%u\n", n.kind, n.start, n.end, n.children, (unsigned long long)n.value, n.base);
     }
     for (size_t i = 0; i < diagnostics; i++) {
         cairo_m_diagnostic d;
@@ -353,16 +353,16 @@ static void read_nodes(const char *at, uint8_t *table, size_t size) {
     size_t n = 0;
     memset(table, POISON, size);
     while (*at == ' ') {
-        unsigned kind, start, end, children;
+        unsigned kind, start, end, children, base;
         unsigned long long value;
         size_t times = 1;
         int used, more = 0;
-        if (sscanf(at, " %u,%u,%u,%u,%llu%n", &kind, &start, &end, &children, &value, &used) != 5)
+        if (sscanf(at, " %u,%u,%u,%u,%llu,%u%n", &kind, &start, &end, &children, &value, &base, &used) != 6)
             stop("no entry");
         at += used;
         if (*at == '*' && sscanf(at, "*%zu%n", &times, &more) == 1)
             at += more;
-        cairo_m_node node = {(uint8_t)kind, 0, (uint16_t)start, (uint16_t)end, (uint16_t)children, value};
+        cairo_m_node node = {(uint8_t)kind, (uint8_t)base, (uint16_t)start, (uint16_t)end, (uint16_t)children, value};
         for (; times > 0; times--, n += sizeof node) {
             if (n + sizeof node > size)
                 stop("too many entries");

@@ -69,7 +69,7 @@ under p (is-lexical h u l) = absurd (errors-one l (p .lexes))
 under p (is-token-room h u l q) = absurd (omega (arith, p .tokens-fit, ap length (lexes-one l (p .lexes) .0)))
 under p (is-lexed h u l q a) = under-tokens p (moved l (p .lexes) a)
 
-each-at : {P : Node → Type 0} {ns : List Node} → Each P ns → (i : ℕ) → i < length ns → P (getD ns i zero-node)
+pub each-at : {P : Node → Type 0} {ns : List Node} → Each P ns → (i : ℕ) → i < length ns → P (getD ns i zero-node)
 each-at no-node i h = absurd (omega arith)
 each-at (node p e) zero h = p
 each-at (node p e) (suc i) h = each-at e i (omega arith)

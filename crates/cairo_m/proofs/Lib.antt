@@ -11,5 +11,6 @@ pub mod Demand1
 pub mod Joining
 pub mod Determined
 pub mod Demand3
+pub mod Bases
 pub mod Edge
 pub mod Outcomes

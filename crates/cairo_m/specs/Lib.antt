@@ -1,3 +1,4 @@
 pub mod Reading
 pub mod Suffixes
 pub mod Spelling
+pub mod Bases

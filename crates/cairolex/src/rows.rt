@@ -14,7 +14,7 @@ pub fn tokens(table: &[u8], count: usize) {
     }
 }
 
-// Kind, start, end, suffix, value.
+// Kind, start, end, suffix, value, base.
 fn token_row(table: &[u8], i: usize) {
     print(b"[\"");
     print_kind(token::kind(table, i));
@@ -26,6 +26,8 @@ fn token_row(table: &[u8], i: usize) {
     io::print_decimal(1, token::suffix(table, i) as u64);
     print(b",");
     io::print_decimal(1, token::value(table, i));
+    print(b",");
+    io::print_decimal(1, token::base(table, i) as u64);
     print(b"]");
 }
 

@@ -65,9 +65,9 @@ represents-leave v w =
 more-nodes : {n m : ℕ} → Upto MAX64 n m → Upto MAX64 (up MAX64 n) (m + 1)
 more-nodes e = record { upto = omega arith }
 
-pub represents-emit : {p : Cursor} {s : S} (t : Token) (k v : ℕ) → Represents p s → Represents (with-part (t .start) (t .end) (counted p)) (emit t k v s)
+pub represents-emit : {p : Cursor} {s : S} (t : Token) (k b v : ℕ) → Represents p s → Represents (with-part (t .start) (t .end) (counted p)) (emit t k b v s)
 unfolding part
-represents-emit t k n v =
+represents-emit t k b n v =
     record { at = v .at; first = v .first; parts = upto-up (v .parts); mark = v .mark; from = upto-first (v .parts) near (v .from); to = near; count = rw length-append (more-nodes (v .count)) }
 
 pub represents-closed : {p : Cursor} {s : S} {a b a′ b′ : ℕ} (k : ℕ) → Upto MAX16 a a′ → Upto MAX16 b b′ → Represents p s → Represents (closed-at a b p) (closed k a′ b′ s)
@@ -77,6 +77,6 @@ represents-closed k e f v =
 -- every cursor stands for some state
 pub some : (p : Cursor) → (s : S) × Represents p s
 some p = (
-  record { at = p .at; nodes = replicate (p .count) (record { kind = 0; start = 0; end = 0; children = 0; value = 0 }); unknown = []; frame = record { first = p .first; parts = p .parts; mark = p .mark; from = p .from; to = p .to } },
+  record { at = p .at; nodes = replicate (p .count) (record { kind = 0; base = 0; start = 0; end = 0; children = 0; value = 0 }); unknown = []; frame = record { first = p .first; parts = p .parts; mark = p .mark; from = p .from; to = p .to } },
   record { at = refl; first = refl; parts = near; mark = near; from = near; to = near; count = rw length-replicate near },
 )

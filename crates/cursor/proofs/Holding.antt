@@ -15,11 +15,11 @@ unfolding entryOf
 entry-size n = node-size _
 
 -- the entry of a node, by numbers that fit their bits and are the node's up to the largest
-pub entry-is : (k : ℕ) {a a′ b b′ c c′ v v′ : ℕ} → a < 0x10000 → b < 0x10000 → c < 0x10000 → v < 0x1_0000_0000_0000_0000
+pub entry-is : (k d : ℕ) {a a′ b b′ c c′ v v′ : ℕ} → a < 0x10000 → b < 0x10000 → c < 0x10000 → v < 0x1_0000_0000_0000_0000
     → Upto MAX16 a a′ → Upto MAX16 b b′ → Upto MAX16 c c′ → Upto MAX64 v v′
-    → encodeNode (record { kind = k; start = a; end = b; children = c; value = v }) ≡ entryOf (record { kind = k; start = a′; end = b′; children = c′; value = v′ })
+    → encodeNode (record { kind = k; base = d; start = a; end = b; children = c; value = v }) ≡ entryOf (record { kind = k; base = d; start = a′; end = b′; children = c′; value = v′ })
 unfolding entryOf
-entry-is k {a} {a′} {b} {b′} {c} {c′} {v} {v′} ha hb hc hv ea eb ec ev =
+entry-is k d {a} {a′} {b} {b′} {c} {c′} {v} {v′} ha hb hc hv ea eb ec ev =
     let fa : min a′ MAX16 ≡ a = omega arith in
     let fb : min b′ MAX16 ≡ b = omega arith in
     let fc : min c′ MAX16 ≡ c = omega arith in

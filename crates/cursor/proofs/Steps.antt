@@ -17,7 +17,7 @@ use Rattle.grammar.specs.Grammar.{tok, op, namedType}
 use Rattle.grammar.proofs.Unique.{unique}
 use Rattle.cursor.specs.Entries.{input, MAX16, MAX64}
 use Rattle.cursor.specs.Read.{Attempt, Exceeds, Holds, READING, FAILED, Upto, Represents, Result, matched, failed, exceeded, Reads, still, reads, Puts, puts}
-use Rattle.cursor.specs.Steps.{Wanted, up, Halted, was-halted, halts, Advanced, not-reading, not-there, too-deep, advanced, with-mark, with-part, counted, Closed, not-closed, closes}
+use Rattle.cursor.specs.Steps.{Wanted, up, Halted, was-halted, halts, Advanced, not-reading, not-there, too-deep, advanced, with-mark, with-part, counted, with-unknown, Emitted, emitted, Closed, not-closed, closes}
 use Rattle.cursor.specs.declared.Cursor.{Cursor}
 use Rattle.cursor.proofs.Attempts.{attempt-as, attempt-take, attempt-absent, attempt-step, exceeds-by, exceeds-take}
 use Rattle.cursor.proofs.Cursors.{upto-as, near, test, upto-up, seen-as, represents-past, represents-mark, represents-emit, represents-closed}
@@ -27,6 +27,10 @@ use Rattle.cursor.proofs.Laws.{clash, status-as, kept, idle}
 pub wanted : {A : Type 0} (k : ℕ) → (1 ≤ k → A) → Wanted k A
 wanted zero f = tt
 wanted (suc k) f = f (omega arith)
+
+pub unwrapped : {A : Type 0} (k : ℕ) → 1 ≤ k → Wanted k A → A
+unwrapped zero h a = absurd (omega arith)
+unwrapped (suc k) h a = a
 
 pub halted : {k : ℕ} {p r : Cursor} → p .status ≡ READING → Halted k p r → r .status ≡ k
 halted z (was-halted n e) = absurd (n z)
@@ -59,6 +63,10 @@ token-after w {i} {n} h l e f =
 
 next-token : (text w : List ℕ) {p : Cursor} {s : S} → Represents p s → token (input text w) (s .at) ≡ tokenAt w (p .at)
 next-token text w {s = s} v = tokens-at w (s .at) ∙ ap (tokenAt w) (sym (v .at))
+
+-- a cursor tells nothing of the literals with an unknown suffix
+reseen : {p : Cursor} {s : S} {u : List Token} → Represents p s → Represents p (with-unknown u s)
+reseen v = record { at = v .at; first = v .first; parts = v .parts; mark = v .mark; from = v .from; to = v .to; count = v .count }
 
 -- where the act a leads from the token at p, and that the cursor and the table then say so
 record Acts (text w : List ℕ) (a : Act) (p : Cursor) (s : S) (T : List ℕ) (r : Cursor) (U : List ℕ) : Type 0 where
@@ -101,23 +109,30 @@ module _ {text w : List ℕ} {k : ℕ} {p q : Cursor} where
   pub marks : {m : ℕ} {T : List ℕ} → Advanced w k p q → q .status ≡ READING → Reads (op k m) text w p T (with-mark m q) T
   marks {m} y z = taken y z refl refl (λ s v. record { to = marked m (next s); acted = refl; represents = represents-mark near v; holds = λ H. H })
 
-  pub leaves : {n v a b : ℕ} {r : Cursor} {T U : List ℕ} → Advanced w k p q → q .status ≡ READING → a ≡ tokenAt w (p .at) .start → b ≡ tokenAt w (p .at) .end
-      → Bounds a b 0 v T → r ≡ with-part a b (counted q) → U ≡ stored 16 T (q .count) (encodeNode (record { kind = n; start = a; end = b; children = 0; value = v }))
-      → Reads (step (take k (leaf n v))) text w p T r U
-  leaves {n} {v} y z f g l i j =
+  pub leaves : {n d v a b : ℕ} {c : Act} {r : Cursor} {T U : List ℕ} → Advanced w k p q → q .status ≡ READING → a ≡ tokenAt w (p .at) .start → b ≡ tokenAt w (p .at) .end
+      → Bounds a b 0 v T → r ≡ with-part a b (counted q) → U ≡ stored 16 T (q .count) (encodeNode (record { kind = n; base = d; start = a; end = b; children = 0; value = v }))
+      → (u : S → List Token) → ((s : S) → act (input text w) c (tokenAt w (p .at)) (next s) ≡ got (with-unknown (u s) (emit (tokenAt w (p .at)) n d v (next s))))
+      → Reads (step (take k c)) text w p T r U
+  leaves {n} {d} {v} y z f g l i j u h =
       taken y z (status-as i refl) (nest-of i) (λ s o.
       record {
-        to = emit (tokenAt w (p .at)) n v (next s);
-        acted = refl;
-        represents = seen-as i (rw (f, g) (represents-emit (tokenAt w (p .at)) n v o));
-        holds = λ H. rw (j, entry-is n (l .start-fits) (l .end-fits) (l .children-fits) (l .value-fits) (upto-as f) (upto-as g) near near) (holds-more _ (omega arith) (o .count) H);
+        to = with-unknown (u s) (emit (tokenAt w (p .at)) n d v (next s));
+        acted = h s;
+        represents = reseen {s = emit (tokenAt w (p .at)) n d v (next s)} (seen-as i (rw (f, g) (represents-emit (tokenAt w (p .at)) n d v o)));
+        holds = λ H. rw (j, entry-is n d (l .start-fits) (l .end-fits) (l .children-fits) (l .value-fits) (upto-as f) (upto-as g) near near) (holds-more _ (omega arith) (o .count) H);
       })
+
+module _ {k n b v : ℕ} {w : List ℕ} {p : Cursor} {T : List ℕ} {r : Cursor} {U : List ℕ} where
+  -- of an act that makes just this leaf of the token
+  pub emits : {a : Act} (text : List ℕ) (u : S → List Token) → ((s : S) → act (input text w) a (tokenAt w (p .at)) (next s) ≡ got (with-unknown (u s) (emit (tokenAt w (p .at)) n b v (next s))))
+      → Emitted k n b v w p T r U → Reads (step (take k a)) text w p T r U
+  emits {a} text u h (emitted y) = y text a u h
 
 -- ---- one act by another
 
 -- the same but for the literals with an unknown suffix
 abbrev pub but : List Token → Out → Out
-but u (got t) = got (record { at = t .at; nodes = t .nodes; unknown = u; frame = t .frame })
+but u (got t) = got (with-unknown u t)
 but u none = none
 
 module _ {x : Input} {k : ℕ} {a b : Act} {n : ℕ} {s : S} where
@@ -147,7 +162,7 @@ module _ {text w : List ℕ} {k : ℕ} {a b : Act} {p : Cursor} where
     where
       go : (s : S) → Represents p s → Result (step (take k a)) text w p s T r U → Result (step (take k b)) text w p s T r U
       go s v (matched t z n o c f) =
-          matched _ z n (record { at = o .at; first = o .first; parts = o .parts; mark = o .mark; from = o .from; to = o .to; count = o .count }) (follows (but (u s)) refl (rw (next-token text w v) (h s)) c) f
+          matched _ z n (reseen o) (follows (but (u s)) refl (rw (next-token text w v) (h s)) c) f
       go s v (failed z c f) = failed z (follows (but (u s)) refl (rw (next-token text w v) (h s)) c) f
       go s v (exceeded z c) = exceeded z (exceeds-too c)
 
@@ -202,7 +217,7 @@ module _ {text w : List ℕ} {p : Cursor} where
       reads z (λ s v.
       let (i, j) = h s v in
       matched (closed k (starts (input text w) a s) (ends (input text w) b s) s) (status-as e z) (nest-of e) (seen-as e (represents-closed k i j v)) (attempt-step tt)
-      (λ H. rw (f, entry-is k (l .start-fits) (l .end-fits) (l .children-fits) (l .value-fits) i j (v .parts) (v .mark)) (holds-more _ (omega arith) (v .count) H)))
+      (λ H. rw (f, entry-is k 0 (l .start-fits) (l .end-fits) (l .children-fits) (l .value-fits) i j (v .parts) (v .mark)) (holds-more _ (omega arith) (v .count) H)))
 
   pub ticks : {m : ℕ} {T : List ℕ} → p .status ≡ READING → m ≡ up MAX64 (p .mark) → Reads (step tick) text w p T (with-mark m p) T
   unfolding yields

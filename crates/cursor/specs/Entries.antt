@@ -19,4 +19,4 @@ MAX64 = 18446744073709551615
 -- a node's entry; a field too large for its bits would be the largest that they hold, which no node of a real text has (`uncapped`)
 unfoldable pub entryOf : Node → List ℕ
 entryOf n =
-    encodeNode (record { kind = n .kind; start = min (n .start) MAX16; end = min (n .end) MAX16; children = min (n .children) MAX16; value = min (n .value) MAX64 })
+    encodeNode (record { kind = n .kind; base = n .base; start = min (n .start) MAX16; end = min (n .end) MAX16; children = min (n .children) MAX16; value = min (n .value) MAX64 })

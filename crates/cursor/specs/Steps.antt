@@ -7,9 +7,9 @@ use lib.Dec.{eqb}
 use lib.ListN.{length}
 use Rattle.tables.specs.Tables.{encodeNode, tokenAt, stored}
 use Rattle.tables.specs.TokenKinds.{NUMBER, IDENT, NOT, MINUS, LPAREN, LBRACE, LBRACK, DOT}
-use Rattle.grammar.specs.Derive.{unary}
+use Rattle.grammar.specs.Derive.{Token, unary, Act, take, step, S, got, next, emit, act}
 use Rattle.grammar.specs.Grammar.{body}
-use Rattle.cursor.specs.Entries.{MAX16, MAX64}
+use Rattle.cursor.specs.Entries.{input, MAX16, MAX64}
 use Rattle.cursor.specs.Read.{LIMIT, READING, FAILED, DEEP, Reads, ending}
 use Rattle.cursor.specs.declared.Cursor.{Cursor}
 use Rattle.cursor.specs.declared.Part.{Part}
@@ -55,6 +55,15 @@ abbrev pub counted : Cursor → Cursor
 counted p =
     record { at = p .at; count = up MAX64 (p .count); nest = p .nest; status = p .status; first = p .first; parts = p .parts; mark = p .mark; from = p .from; to = p .to }
 
+-- with these literals of an unknown suffix
+abbrev pub with-unknown : List Token → S → S
+with-unknown u s = record { at = s .at; nodes = s .nodes; unknown = u; frame = s .frame }
+
+-- a leaf of kind n, base b and value v over a token of kind k: a reading of every act that makes this of the token
+pub data Emitted (k n b v : ℕ) (w : List ℕ) (p : Cursor) (T : List ℕ) (r : Cursor) (U : List ℕ) : Type 0 where
+  emitted : ((text : List ℕ) (a : Act) (u : S → List Token) → ((s : S) → act (input text w) a (tokenAt w (p .at)) (next s) ≡ got (with-unknown (u s) (emit (tokenAt w (p .at)) n b v (next s))))
+      → Reads (step (take k a)) text w p T r U) → Emitted k n b v w p T r U
+
 -- all parts are now one, from a to b
 abbrev pub closed-at : ℕ → ℕ → Cursor → Cursor
 closed-at a b p =
@@ -64,7 +73,7 @@ closed-at a b p =
 pub data Closed (k a b : ℕ) (p : Cursor) (T : List ℕ) (r : Cursor) (U : List ℕ) : Type 0 where
   not-closed : (p .status ≡ READING → ⊥) → r ≡ p → U ≡ T → Closed k a b p T r U
   closes : p .status ≡ READING → r ≡ closed-at a b p
-      → U ≡ stored 16 T (p .count) (encodeNode (record { kind = k; start = a; end = b; children = p .parts; value = p .mark })) → Closed k a b p T r U
+      → U ≡ stored 16 T (p .count) (encodeNode (record { kind = k; base = 0; start = a; end = b; children = p .parts; value = p .mark })) → Closed k a b p T r U
 
 -- at the token i, with nothing gathered
 abbrev pub fresh-at : ℕ → Cursor → Cursor

@@ -10,7 +10,7 @@ ghost use Rattle.grammar.specs.Kinds.{Call};
 ghost use Rattle.grammar.specs.Grammar.{tok, op, opt, name, numeral, whole, operands, spanless};
 ghost use Rattle.cursor.specs.Entries.{input, MAX16, MAX64};
 ghost use Rattle.cursor.specs.Read.{Puts, Grown, Step, Free, begun, ending, ending-with};
-ghost use Rattle.cursor.specs.Steps.{Wanted, Halted, Advanced, Closed, Agreed, Restarted, Left, with-part, fresh-at, signed-at, shallow, joining, up};
+ghost use Rattle.cursor.specs.Steps.{Wanted, Halted, Advanced, Emitted, Closed, Agreed, Restarted, Left, with-part, fresh-at, signed-at, shallow, joining, up};
 use grammar::node_kind;
 use patterns::is_word;
 use tables::node::put_node;
@@ -157,8 +157,16 @@ impl Cursor {
     }
 
     // Takes a token of this kind, and emits a leaf.
-    pub fn leaf(self, tokens: &[u8], nodes: &mut [u8], kind: u8, node: u8, value: u64) -> Cursor
-        ensures { λ r. ⌜ Wanted kind (Puts (step (take kind (leaf node value))) (now (tokens .entry)) self (now (nodes .entry)) r (now (nodes .exit))) ⌝ }
+    fn emit(
+        self,
+        tokens: &[u8],
+        nodes: &mut [u8],
+        kind: u8,
+        node: u8,
+        base: u8,
+        value: u64,
+    ) -> Cursor
+        ensures { λ r. ⌜ Wanted kind (Emitted kind node base value (now (tokens .entry)) self (now (nodes .entry)) r (now (nodes .exit))) ⌝ }
     {
         let mut p = self.advance(tokens, kind);
         if p.status != READING {
@@ -166,9 +174,16 @@ impl Cursor {
         }
         let start = token::start(tokens, self.at);
         let end = token::end(tokens, self.at);
-        put_node(nodes, p.count, node, start, end, 0, value);
+        put_node(nodes, p.count, node, base, start, end, 0, value);
         p.count = next(p.count);
         p.part(start, end)
+    }
+
+    // The same of one that is no numeral.
+    pub fn leaf(self, tokens: &[u8], nodes: &mut [u8], kind: u8, node: u8, value: u64) -> Cursor
+        ensures { λ r. ⌜ Wanted kind (Puts (step (take kind (leaf node value))) (now (tokens .entry)) self (now (nodes .entry)) r (now (nodes .exit))) ⌝ }
+    {
+        self.emit(tokens, nodes, kind, node, 0, value)
     }
 
     // Takes a name, and emits a Name.
@@ -183,11 +198,12 @@ impl Cursor {
         ensures { λ r. ⌜ Puts (numeral literal) (now (tokens .entry)) self (now (nodes .entry)) r (now (nodes .exit)) ⌝ }
     {
         let node = literal_kind(token::suffix(tokens, self.at));
-        self.leaf(
+        self.emit(
             tokens,
             nodes,
             LITERAL_NUMBER,
             node,
+            token::base(tokens, self.at),
             token::value(tokens, self.at),
         )
     }
@@ -196,17 +212,17 @@ impl Cursor {
     pub fn count(self, tokens: &[u8], nodes: &mut [u8]) -> Cursor
         ensures { λ r. ⌜ Puts (numeral count) (now (tokens .entry)) self (now (nodes .entry)) r (now (nodes .exit)) ⌝ }
     {
-        let p = self.leaf(
+        if token::suffix(tokens, self.at) != 0 {
+            return self.take(tokens, LITERAL_NUMBER).halt(FAILED);
+        }
+        self.emit(
             tokens,
             nodes,
             LITERAL_NUMBER,
             node_kind::COUNT,
+            token::base(tokens, self.at),
             token::value(tokens, self.at),
-        );
-        if token::suffix(tokens, self.at) != 0 {
-            return p.halt(FAILED);
-        }
-        p
+        )
     }
 
     // The mark goes up by 1.
@@ -237,7 +253,7 @@ impl Cursor {
         if self.status != READING {
             return self;
         }
-        put_node(nodes, self.count, kind, start, end, self.parts, self.mark);
+        put_node(nodes, self.count, kind, 0, start, end, self.parts, self.mark);
         self.count = next(self.count);
         self.parts = 1;
         self.mark = 0;

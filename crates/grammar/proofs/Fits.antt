@@ -90,7 +90,7 @@ right : (r : R) → flow (body r) begun .wrong ≡ 0
 unfolding body
 right r = eqb-true _ 0 (of-T _ (every (λ r. eqb (flow (body r) begun .wrong) 0) (λ n. tt) r))
 
-module _ (x : Input) (o : Ordered x) (text : length (x .text) ≤ 65535) (values : (i : ℕ) → i < length (x .tokens) → token x i .value < 2 ^ 64) where
+module _ (x : Input) (o : Ordered x) (text : length (x .text) ≤ 65535) (values : (i : ℕ) → i < length (x .tokens) → (token x i .base < 256) × (token x i .value < 2 ^ 64)) where
   -- with room for 1, neither the parts nor a counted mark exceed the number of tokens before the place
   abbrev Sound : Know → S → Type 0
   Sound d s =
@@ -102,25 +102,25 @@ module _ (x : Input) (o : Ordered x) (text : length (x .text) ≤ 65535) (values
   weaker d e h q = on-map (λ t p. (p .0, omega arith)) q
 
   module _ (d : Know) (s : S) (p : Sound d s) where
-    leafed : (t : Token) → s .at < 65535 → (k v : ℕ) → k < 256 → v < 2 ^ 64 → Sound d (emit t k v (next s))
+    leafed : (t : Token) → s .at < 65535 → (k b v : ℕ) → k < 256 → b < 256 → v < 2 ^ 64 → Sound d (emit t k b v (next s))
     unfolding part
-    leafed t l k v h i = (add (p .0) (λ j. omega arith), omega arith)
+    leafed t l k b v h i j = (add (p .0) (λ q. omega arith), omega arith)
 
-    acts : (t : Token) → s .at < 65535 → t .value < 2 ^ 64 → (a : Act) → byAct a d .wrong ≡ 0 → On (Sound (byAct a d)) (act x a t (next s))
-    acts t l v skip w = on {t = next s} (p .0, omega arith)
-    acts t l v (leaf k n) w = on (leafed t l k n (omega arith) (omega arith))
-    acts t l v named w = on (leafed t l Named _ (omega arith) (type-fits (spelling x t)))
-    acts t l v literal w = on (leafed t l _ _ (literal-fits (t .suffix)) v)
-    acts t l v count w = on-if (eqb (t .suffix) 0) (λ e. on (leafed t l Count _ (omega arith) v))
-    acts t l v index w = on-if (eqb (t .suffix) 0) (λ e. on {t = marked (t .value) (next s)} (p .0, omega arith))
-    acts t l v (mark m) w = on {t = marked m (next s)} (p .0, omega arith)
+    acts : (t : Token) → s .at < 65535 → t .base < 256 → t .value < 2 ^ 64 → (a : Act) → byAct a d .wrong ≡ 0 → On (Sound (byAct a d)) (act x a t (next s))
+    acts t l b v skip w = on {t = next s} (p .0, omega arith)
+    acts t l b v (leaf k n) w = on (leafed t l k 0 n (omega arith) (omega arith) (omega arith))
+    acts t l b v named w = on (leafed t l Named 0 _ (omega arith) (omega arith) (type-fits (spelling x t)))
+    acts t l b v literal w = on (leafed t l _ _ _ (literal-fits (t .suffix)) b v)
+    acts t l b v count w = on-if (eqb (t .suffix) 0) (λ e. on (leafed t l Count _ _ (omega arith) b v))
+    acts t l b v index w = on-if (eqb (t .suffix) 0) (λ e. on {t = marked (t .value) (next s)} (p .0, omega arith))
+    acts t l b v (mark m) w = on {t = marked m (next s)} (p .0, omega arith)
 
     runs : (q : Step) → byStep q d .wrong ≡ 0 → On (Sound (byStep q d)) (yields x q s)
     unfolding yields
     runs (take k a) w =
         let i = s .at in
         let t = token x i in
-        on-if (eqb (t .kind) k) (λ e. let l = is-token x i k (eqb-true (t .kind) k e) (omega arith) in acts t (omega (arith, ends-past o i l, o .inside i l)) (values i l) a (omega arith))
+        on-if (eqb (t .kind) k) (λ e. let l = is-token x i k (eqb-true (t .kind) k e) (omega arith) in acts t (omega (arith, ends-past o i l, o .inside i l)) (values i l .0) (values i l .1) a (omega arith))
     runs (close k a b) w = on {t = closed k (starts x a s) (ends x b s) s} (add (p .0) (λ i. omega arith), omega arith)
     runs tick w = on {t = marked (suc (s .frame .mark)) s} (p .0, omega arith)
     runs alone w = on-if (eqb (s .frame .parts) 1) (λ e. on p)
@@ -143,5 +143,5 @@ module _ (x : Input) (o : Ordered x) (text : length (x .text) ≤ 65535) (values
       let k = on-of (flows begun (λ u. (p .0, omega arith)) a (right r)) in
       on {t = left s t} (k .0, omega (arith, farther r (solid r) refl (ruled {s = s} a)))
 
-pub fits : {x : Input} {ns : List Node} {us : List Token} → Ordered x → length (x .text) ≤ 65535 → ((i : ℕ) → i < length (x .tokens) → token x i .value < 2 ^ 64) → Tree x ns us → Each NodeFits ns
+pub fits : {x : Input} {ns : List Node} {us : List Token} → Ordered x → length (x .text) ≤ 65535 → ((i : ℕ) → i < length (x .tokens) → (token x i .base < 256) × (token x i .value < 2 ^ 64)) → Tree x ns us → Each NodeFits ns
 fits o text values a = each-apply (rw (a .these) at (on-of (flows _ o text values begun (λ u. (no-node, omega arith)) (a .derived) refl) .0)) (spans o a)

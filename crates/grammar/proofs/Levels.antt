@@ -74,7 +74,7 @@ pub reads : {x : Input} {r : R} {s t : S} → Derives body x (rule r) s (got t) 
 reads d = elim (on-of (one-tree d)) [ grown a f e p ↦ (a, read d f e) ]
 
 abbrev pub binary : ℕ → Branch → Branch → Branch
-binary v a b = node (record { kind = Binary; start = root a .start; end = root b .end; children = 2; value = v }) (no-trees then a then b)
+binary v a b = node (record { kind = Binary; base = 0; start = root a .start; end = root b .end; children = 2; value = v }) (no-trees then a then b)
 
 -- operands of level n with operators of that level between them, from i to j: the tree of all up to an operator is its left operand
 pub data Chain (x : Input) (n : ℕ) : ℕ → ℕ → Branch → Type 0 where

@@ -7,11 +7,13 @@ pub mod Whole
 pub mod First
 pub mod Added
 pub mod Alike
+pub mod Keeps
 pub mod Suffix
 pub mod Trees
 pub mod Forest
 pub mod Levels
 pub mod Spans
+pub mod Bases
 pub mod Fits
 pub mod Few
 pub mod Eval

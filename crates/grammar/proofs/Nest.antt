@@ -10,7 +10,7 @@ use Rattle.grammar.proofs.Eval.{eval}
 use Rattle.grammar.proofs.Verdict.{is-deep, is-shallow}
 
 abbrev t : ℕ → Token
-t k = record { kind = k; suffix = 0; start = 0; end = 0; value = 0 }
+t k = record { kind = k; suffix = 0; start = 0; end = 0; base = 0; value = 0 }
 
 abbrev times : ℕ → Token → List Token → List Token
 times zero a l = l

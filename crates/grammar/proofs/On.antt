@@ -41,7 +41,7 @@ on-leave s f off = off
 on-leave s f (on {t = t} p) = on (f t p)
 
 -- past the last token stands one of kind 0
-reached : (ts : List Token) (i k : ℕ) → getD ts i (record { kind = 0; suffix = 0; start = 0; end = 0; value = 0 }) .kind ≡ k → 1 ≤ k → i < length ts
+reached : (ts : List Token) (i k : ℕ) → getD ts i (record { kind = 0; suffix = 0; start = 0; end = 0; base = 0; value = 0 }) .kind ≡ k → 1 ≤ k → i < length ts
 reached [] i k e h = absurd (omega arith)
 reached (t ∷ ts) zero k e h = omega arith
 reached (t ∷ ts) (suc i) k e h = omega (arith, reached ts i k e h)

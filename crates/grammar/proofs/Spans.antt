@@ -171,19 +171,19 @@ module _ (x : Input) (o : Ordered x) (i : ℕ) (d : Know) (s : S) (p : Sound x i
     passed : Sound x i (skipped d) (next s)
     passed = (p .0, omega (arith, reads o (s .at) l))
 
-    leafed : (k v : ℕ) → Sound x i (joined true d) (emit (token x (s .at)) k v (next s))
+    leafed : (k b v : ℕ) → Sound x i (joined true d) (emit (token x (s .at)) k b v (next s))
     unfolding part
-    leafed k v =
+    leafed k b v =
         let t = token x (s .at) in
         let leaf-spot : Spot x (s .at) 0 1 0 (suc (s .at)) (s .at) 1 (t .start) (t .end) = omega (arith, reads o (s .at) l) in
         (add (p .0) (omega (arith, reads o (s .at) l)), joins true (p .1) leaf-spot)
 
     acts : (w : ℕ) (a : Act) → On (Sound x i (wronged w (byAct a d))) (act x a (token x (s .at)) (next s))
     acts w skip = on passed
-    acts w (leaf k v) = on (leafed k v)
-    acts w named = on (leafed _ _)
-    acts w literal = on (leafed _ _)
-    acts w count = on-if (eqb (token x (s .at) .suffix) 0) (λ e. on (leafed _ _))
+    acts w (leaf k v) = on (leafed k 0 v)
+    acts w named = on (leafed _ _ _)
+    acts w literal = on (leafed _ _ _)
+    acts w count = on-if (eqb (token x (s .at) .suffix) 0) (λ e. on (leafed _ _ _))
     acts w index = on-if (eqb (token x (s .at) .suffix) 0) (λ e. on passed)
     acts w (mark m) = on passed
 

@@ -9,16 +9,15 @@ use lib.ListN.{length, getD}
 use lib.ListN as L
 use borrow.Author.Tests.{eqb-true}
 use Rattle.grammar.specs.Derive.{Token, Node, Input, token, R, Act, skip, leaf, named, literal, count, index, mark, Step, take, close, tick, alone, done}
-use Rattle.grammar.specs.Derive.{G, step, _&_, _or_, many, both, rule, S, Out, next, act, yields}
-use Rattle.grammar.specs.Derive.{Derives, stepped, and-not, and-then, or-first, or-else, no-more, one-more, agreed, ruled}
+use Rattle.grammar.specs.Derive.{S, next, act, yields}
 use Rattle.grammar.specs.Grammar.{body, Tree}
 use Rattle.grammar.specs.Suffix.{unknownSuffix, keep, unknownNumerals}
-use Rattle.patterns.proofs.Tests.{and-l, and-r}
 use Rattle.grammar.proofs.Bodies.{every}
-use Rattle.grammar.proofs.On.{On, off, on, on-of, on-if, on-agree, on-leave}
+use Rattle.grammar.proofs.On.{On, on, on-if}
+use Rattle.grammar.proofs.Keeps.{passes, tree-keeps}
 
 abbrev none-such : Token
-none-such = record { kind = 0; start = 0; end = 0; value = 0; suffix = 0 }
+none-such = record { kind = 0; start = 0; end = 0; value = 0; suffix = 0; base = 0 }
 
 pub one-later : (ts : List Token) (n : ℕ) → unknownNumerals (L.take (suc n) ts) ≡ unknownNumerals (L.take n ts) ++ keep (unknownSuffix (getD ts n none-such)) (getD ts n none-such)
 one-later [] zero = refl
@@ -45,21 +44,16 @@ plain count = true
 plain index = true
 plain (mark m) = true
 
-tidy : G → Bool
-tidy (step (take k a)) = cond (eqb k 1) (heeds a) (plain a)
-tidy (step (close k a b)) = true
-tidy (step tick) = true
-tidy (step alone) = true
-tidy (step done) = true
-tidy (g & h) = tidy g && tidy h
-tidy (g or h) = tidy g && tidy h
-tidy (many g) = tidy g
-tidy (both g h) = tidy h
-tidy (rule r) = true
+tidy : Step → Bool
+tidy (take k a) = cond (eqb k 1) (heeds a) (plain a)
+tidy (close k a b) = true
+tidy tick = true
+tidy alone = true
+tidy done = true
 
-tidy-body : (r : R) → T (tidy (body r))
-unfolding tidy heeds plain body
-tidy-body r = every (λ r. tidy (body r)) (λ n. tt) r
+tidy-body : (r : R) → T (passes tidy (body r))
+unfolding passes tidy heeds plain body
+tidy-body r = every (λ r. passes tidy (body r)) (λ n. tt) r
 
 abbrev odds : Input → ℕ → List Token
 odds x n = unknownNumerals (L.take n (x .tokens))
@@ -113,7 +107,7 @@ module _ (x : Input) (s : S) (e : Fair x s) where
   fair-take k a false q p h =
       other a p (ap (λ (c : Bool). (c && eqb (token x (s .at) .suffix) 3)) (ap (λ (n : ℕ). eqb n 1) h ∙ q))
 
-  fair-run : (p : Step) → T (tidy (step p)) → On (Fair x) (yields x p s)
+  fair-run : (p : Step) → T (tidy p) → On (Fair x) (yields x p s)
   unfolding yields tidy
   fair-run (take k a) z =
       on-if (eqb (token x (s .at) .kind) k) (λ q. fair-take k a (eqb k 1) refl z (eqb-true (token x (s .at) .kind) k q))
@@ -122,24 +116,10 @@ module _ (x : Input) (s : S) (e : Fair x s) where
   fair-run alone z = on-if (eqb (s .frame .parts) 1) (λ q. on e)
   fair-run done z = on e
 
-fairly : {b : R → G} {x : Input} {g : G} {s : S} {o : Out} → ((r : R) → T (tidy (b r))) → T (tidy g) → Fair x s → Derives b x g s o → On (Fair x) o
-unfolding tidy
-fairly {x = x} y z e (stepped {p = p} {s = s}) = fair-run x s e p z
-fairly y z e (and-not a) = off
-fairly y z e (and-then {g = g} {h = h} a c) =
-    fairly y (and-r (tidy g) (tidy h) z) (on-of (fairly y (and-l (tidy g) (tidy h) z) e a)) c
-fairly y z e (or-first {g = g} {h = h} a) = fairly y (and-l (tidy g) (tidy h) z) e a
-fairly y z e (or-else {g = g} {h = h} a c) = fairly y (and-r (tidy g) (tidy h) z) e c
-fairly y z e (no-more a) = on e
-fairly y z e (one-more a c) = fairly y z (on-of (fairly y z e a)) c
-fairly y z e (agreed {o = o} a c) = on-agree o (fairly y z e c)
-fairly {s = s} y z e (ruled {r = r} a) = on-leave s (λ t q. q) (fairly y (y r) e a)
-
 take-all : (ts : List Token) → L.take (length ts) ts ≡ ts
 take-all [] = refl
 take-all (t ∷ ts) = ap (t ∷_) (take-all ts)
 
 pub unknown-suffixes : {x : Input} {ns : List Node} {ds : List Token} → Tree x ns ds → ds ≡ unknownNumerals (x .tokens)
-unfolding tidy
 unknown-suffixes {x} a =
-    sym (a .unknowns) ∙ on-of (fairly tidy-body tt refl (a .derived)) ∙ ap (odds x) (a .all) ∙ ap unknownNumerals (take-all (x .tokens))
+    sym (a .unknowns) ∙ tree-keeps tidy tidy-body (Fair x) (λ p s z e. fair-run x s e p z) (λ s e. e) (λ s t e. e) refl a ∙ ap (odds x) (a .all) ∙ ap unknownNumerals (take-all (x .tokens))

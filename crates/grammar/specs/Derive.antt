@@ -19,7 +19,7 @@ pub record Input : Type 0 where
 
 -- past the last token stands one of kind 0, which no grammar wants
 abbrev pub token : Input → ℕ → Token
-token x i = getD (x .tokens) i (record { kind = 0; suffix = 0; start = 0; end = 0; value = 0 })
+token x i = getD (x .tokens) i (record { kind = 0; suffix = 0; start = 0; end = 0; base = 0; value = 0 })
 
 -- Named's value, by the token's spelling: 0 felt, 1 bool, 2 u32, 3 other
 unfoldable pub typeName : List ℕ → ℕ
@@ -116,12 +116,12 @@ marked m s =
     let f = s .frame in
     record { at = s .at; nodes = s .nodes; unknown = s .unknown; frame = record { first = f .first; parts = f .parts; mark = m; from = f .from; to = f .to } }
 
--- a leaf over the token t
-abbrev pub emit : Token → ℕ → ℕ → S → S
-emit t k v s =
+-- a leaf over the token t, of kind k, base b and value v
+abbrev pub emit : Token → ℕ → ℕ → ℕ → S → S
+emit t k b v s =
     record {
       at = s .at;
-      nodes = s .nodes ++ (record { kind = k; start = t .start; end = t .end; children = 0; value = v } ∷ []);
+      nodes = s .nodes ++ (record { kind = k; base = b; start = t .start; end = t .end; children = 0; value = v } ∷ []);
       unknown = s .unknown;
       frame = part (t .start) (t .end) (s .frame);
     }
@@ -148,7 +148,7 @@ abbrev pub closed : ℕ → ℕ → ℕ → S → S
 closed k a b s =
     record {
       at = s .at;
-      nodes = s .nodes ++ (record { kind = k; start = a; end = b; children = s .frame .parts; value = s .frame .mark } ∷ []);
+      nodes = s .nodes ++ (record { kind = k; base = 0; start = a; end = b; children = s .frame .parts; value = s .frame .mark } ∷ []);
       unknown = s .unknown;
       frame = record { first = s .frame .first; parts = 1; mark = 0; from = a; to = b };
     }
@@ -159,13 +159,13 @@ literalKind n = cond (eqb n 1) LiteralFelt (cond (eqb n 2) LiteralU32 Literal)
 
 -- ---- what a grammar derives
 
--- a token t of the kind wanted, just gone past
+-- a token t of the kind wanted, just gone past; the three literals and Count carry its base, all other nodes have 0
 abbrev pub act : Input → Act → Token → S → Out
 act x skip t s = got s
-act x (leaf k v) t s = got (emit t k v s)
-act x named t s = got (emit t Named (typeName (spelling x t)) s)
-act x literal t s = got (emit t (literalKind (t .suffix)) (t .value) (noted t s))
-act x count t s = cond (eqb (t .suffix) 0) (got (emit t Count (t .value) s)) none
+act x (leaf k v) t s = got (emit t k 0 v s)
+act x named t s = got (emit t Named 0 (typeName (spelling x t)) s)
+act x literal t s = got (emit t (literalKind (t .suffix)) (t .base) (t .value) (noted t s))
+act x count t s = cond (eqb (t .suffix) 0) (got (emit t Count (t .base) (t .value) s)) none
 act x index t s = cond (eqb (t .suffix) 0) (got (marked (t .value) s)) none
 act x (mark m) t s = got (marked m s)
 

@@ -34,15 +34,15 @@ module _ {s : List ℕ} {f : Found} (i : Scanned s f) where
       go : {n : ℕ} → Scanned s (Found.Skip n) → Stepped s (Item.Skipped n)
       go (Scanned.skip b r) = Stepped.skipped (matched 0 b refl) r
 
-  pub token-step : {k n : ℕ} → f ≡ Found.Token k n → Stepped s (Item.Token n k 0 0)
+  pub token-step : {k n : ℕ} → f ≡ Found.Token k n → Stepped s (Item.Token n k 0 0 0)
   token-step e = go (subst (Scanned s) e i)
     where
-      plain : (k : ℕ) (a : NumberLiteral) → 2 ≤ k → token k 0 0 ≡ itemOf k a
+      plain : (k : ℕ) (a : NumberLiteral) → 2 ≤ k → token k 0 0 0 ≡ itemOf k a
       plain zero a h = absurd (omega arith)
       plain (suc zero) a h = absurd (omega arith)
       plain (suc (suc k)) a h = refl
 
-      go : {k n : ℕ} → Scanned s (Found.Token k n) → Stepped s (Item.Token n k 0 0)
+      go : {k n : ℕ} → Scanned s (Found.Token k n) → Stepped s (Item.Token n k 0 0 0)
       go {k} {n} (Scanned.token h b r) = Stepped.token (matched k b (plain k (numeralOf (take n s)) h)) r
 
   pub strange-step : {n : ℕ} → f ≡ Found.Strange n → Stepped s (Item.Error n 1)
@@ -70,8 +70,8 @@ module _ {s : List ℕ} {f : Found} (i : Scanned s f) where
         go : Scanned s (Found.Number n) → (Step s n j × Rest s n)
         go (Scanned.number b r) = (matched 1 b (sym h ∙ ap (itemOf 1) q), r)
 
-    pub literal-step : {a : NumberLiteral} {v x : ℕ} → a ≡ numeralOf (take n s) → a ≡ NumberLiteral.Number v x → Stepped s (Item.Token n 1 x v)
-    literal-step {a} {v} {x} q h = let r = number-step (token 1 x v) q (ap (itemOf 1) h) in Stepped.token (r .0) (r .1)
+    pub literal-step : {a : NumberLiteral} {v x y : ℕ} → a ≡ numeralOf (take n s) → a ≡ NumberLiteral.Number v x y → Stepped s (Item.Token n 1 x y v)
+    literal-step {a} {v} {x} {y} q h = let r = number-step (token 1 x y v) q (ap (itemOf 1) h) in Stepped.token (r .0) (r .1)
 
     pub overflow-step : {a : NumberLiteral} → a ≡ numeralOf (take n s) → a ≡ NumberLiteral.Overflow → Stepped s (Item.Error n 2)
     overflow-step q h = let r = number-step (error 2) q (ap (itemOf 1) h) in Stepped.error (r .0) (r .1)
@@ -97,7 +97,7 @@ pub record Going (text a₀ b₀ a b : List ℕ) (at nt nd : ℕ) : Type 0 where
 -- how far an item reaches
 abbrev pub Turned : List ℕ → ℕ → declared.Item → Type 0
 Turned text at (Item.Skipped n) = (1 ≤ n) × (at + n ≤ length text)
-Turned text at (Item.Token n k x v) = (1 ≤ n) × (at + n ≤ length text)
+Turned text at (Item.Token n k x y v) = (1 ≤ n) × (at + n ≤ length text)
 Turned text at (Item.Error n r) = (1 ≤ n) × (at + n ≤ length text)
 Turned text at Item.NotUtf8 = Unit {0}
 
@@ -168,14 +168,14 @@ module _ {text a₀ b₀ : List ℕ} where
     going-white {n = zero} e q = subst (λ (m : ℕ). Going text a₀ b₀ a b m nt nd) (sym (add-zero at)) g
     going-white {n = suc n} e q = going-skipped (skip-step (white-found e (omega arith)) refl) q refl
 
-    pub going-token : {s a′ : List ℕ} {i : declared.Item} {n k x v : ℕ} → Stepped s i → s ≡ drop at text → i ≡ Item.Token n k x v
-        → a′ ≡ stored 16 a nt (encodeToken (record { kind = k; suffix = x; start = at; end = at + n; value = v })) → Going text a₀ b₀ a′ b (at + n) (nt + 1) nd
-    going-token {s} {a′} {i} {n} {k} {x} {v} w e q f = go (subst (Stepped s) q w)
+    pub going-token : {s a′ : List ℕ} {i : declared.Item} {n k x y v : ℕ} → Stepped s i → s ≡ drop at text → i ≡ Item.Token n k x y v
+        → a′ ≡ stored 16 a nt (encodeToken (record { kind = k; suffix = x; start = at; end = at + n; base = y; value = v })) → Going text a₀ b₀ a′ b (at + n) (nt + 1) nd
+    going-token {s} {a′} {i} {n} {k} {x} {y} {v} w e q f = go (subst (Stepped s) q w)
       where
         t : Token
-        t = record { kind = k; suffix = x; start = at; end = at + n; value = v }
+        t = record { kind = k; suffix = x; start = at; end = at + n; base = y; value = v }
 
-        go : Stepped s (Item.Token n k x v) → Going text a₀ b₀ a′ b (at + n) (nt + 1) nd
+        go : Stepped s (Item.Token n k x y v) → Going text a₀ b₀ a′ b (at + n) (nt + 1) nd
         go (Stepped.token st r) =
             let h = stepped-turn (Stepped.token st r) e in
             record {

@@ -14,16 +14,16 @@ use Rattle.lexer.specs.Tokens.{Best, Stuck}
 -- what stands at a place: something skipped, a token, or a lexical error
 pub data Item : Type 0 where
   skipped : Item
-  token : (kind suffix value : ℕ) → Item
+  token : (kind suffix base value : ℕ) → Item
   error : (reason : ℕ) → Item
 
--- a match of kind k: a numeral is what its spelling says, and tokens other than numerals have 0 for suffix and value
+-- a match of kind k: a numeral is what its spelling says, and tokens other than numerals have 0 for suffix, base and value
 abbrev pub itemOf : ℕ → NumberLiteral → Item
 itemOf zero a = skipped
-itemOf (suc zero) (Number v x) = token NUMBER x v
+itemOf (suc zero) (Number v x b) = token NUMBER x b v
 itemOf (suc zero) Overflow = error 2
 itemOf (suc zero) InvalidFormat = error 3
-itemOf (suc (suc k)) a = token (suc (suc k)) 0 0
+itemOf (suc (suc k)) a = token (suc (suc k)) 0 0 0
 
 -- the first n bytes of s are the longest match, or the whole character that begins no token: one lexical error
 pub data Step (s : List ℕ) (n : ℕ) (i : Item) : Type 0 where
@@ -33,13 +33,13 @@ pub data Step (s : List ℕ) (n : ℕ) (i : Item) : Type 0 where
 -- an item that stands from a to e, before those that follow
 abbrev pub tokens : Item → ℕ → ℕ → List Token → List Token
 tokens skipped a e ts = ts
-tokens (token k x v) a e ts = record { kind = k; suffix = x; start = a; end = e; value = v } ∷ ts
+tokens (token k x b v) a e ts = record { kind = k; suffix = x; start = a; end = e; base = b; value = v } ∷ ts
 tokens (error r) a e ts = ts
 
 -- the lexical errors, likewise
 abbrev pub errors : Item → ℕ → ℕ → List Diagnostic → List Diagnostic
 errors skipped a e ds = ds
-errors (token k x v) a e ds = ds
+errors (token k x b v) a e ds = ds
 errors (error r) a e ds = record { start = a; end = e; reason = r } ∷ ds
 
 -- what is left of the text, s, stands at the place `at`, and has these tokens and errors

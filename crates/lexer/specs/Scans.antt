@@ -48,6 +48,6 @@ pub data Scanned (s : List ℕ) : Found → Type 0 where
 -- the same with the numeral's answer
 pub data Stepped (s : List ℕ) : Item → Type 0 where
   skipped : {n : ℕ} → Step s n Lexes.skipped → Rest s n → Stepped s (Item.Skipped n)
-  token : {n k x v : ℕ} → Step s n (Lexes.token k x v) → Rest s n → Stepped s (Item.Token n k x v)
+  token : {n k x b v : ℕ} → Step s n (Lexes.token k x b v) → Rest s n → Stepped s (Item.Token n k x b v)
   error : {n r : ℕ} → Step s n (Lexes.error r) → Rest s n → Stepped s (Item.Error n r)
   broken : (Utf8 s → ⊥) → Stepped s Item.NotUtf8

@@ -36,6 +36,7 @@ pub enum Item {
         size: usize,
         kind: u8,
         suffix: u8,
+        base: u8,
         value: u64,
     },
     Error {
@@ -73,15 +74,21 @@ fn step(
             size,
             kind,
             suffix: 0,
+            base: 0,
             value: 0,
         },
         Found::Number(n) => {
             let a = parse_number_literal(&t[..n]);
             match a {
-                NumberLiteral::Number { value, suffix } => Item::Token {
+                NumberLiteral::Number {
+                    value,
+                    suffix,
+                    base,
+                } => Item::Token {
                     size: n,
                     kind: LITERAL_NUMBER,
                     suffix,
+                    base,
                     value,
                 },
                 NumberLiteral::Overflow => Item::Error {
@@ -132,6 +139,7 @@ pub fn lex(text: &[u8], tokens: &mut [u8], diagnostics: &mut [u8]) -> Lexed
                     size,
                     kind,
                     suffix,
+                    base,
                     value,
                 } => {
                     let end = start + size;
@@ -142,6 +150,7 @@ pub fn lex(text: &[u8], tokens: &mut [u8], diagnostics: &mut [u8]) -> Lexed
                         suffix,
                         start as u16,
                         end as u16,
+                        base,
                         value,
                     );
                     token_count += 1;

@@ -50,7 +50,7 @@ fn print_counts(outcome: u32, token_count: usize, diagnostic_count: usize) {
 
 // For each table the bytes that should be zero and are not, then each token and each diagnostic.
 fn print_tables(tokens: &[u8], t: usize, diagnostics: &[u8], d: usize) {
-    field(b' ', stray(tokens, t, 16, 6, 8) as u64);
+    field(b' ', stray(tokens, t, 16, 7, 8) as u64);
     field(b' ', stray(diagnostics, d, 8, 5, 8) as u64);
     print_tokens(tokens, t);
     print_diagnostics(diagnostics, d);
@@ -77,6 +77,7 @@ fn print_token(table: &[u8], i: usize) {
     field(b',', token::start(table, i) as u64);
     field(b',', token::end(table, i) as u64);
     field(b',', token::value(table, i));
+    field(b',', token::base(table, i) as u64);
 }
 
 fn print_diagnostics(table: &[u8], used: usize) {

@@ -47,7 +47,7 @@ fn utf8_case(case: &[u8]) {
     field(b' ', utf8::char_len(text) as u64);
 }
 
-// n BYTES: outcome, value, suffix and reason of the C entry, then the answer as an enum.
+// n BYTES: outcome, value, suffix, base and reason of the C entry, then the answer as an enum.
 fn numeral_case(case: &[u8]) {
     let mut space = [0u8; 65600];
     let n = input::bytes(case, 2, &mut space);
@@ -59,22 +59,30 @@ fn numeral_case(case: &[u8]) {
 fn numeral_entry(spelling: &[u8]) {
     let mut value: u64 = 0xAAAA_AAAA_AAAA_AAAA;
     let mut suffix: u8 = 0xAA;
+    let mut base: u8 = 0xAA;
     let mut reason: u8 = 0xAA;
-    let outcome = numeral::cairo_m_numeral(spelling, &mut value, &mut suffix, &mut reason);
+    let outcome =
+        numeral::cairo_m_numeral(spelling, &mut value, &mut suffix, &mut base, &mut reason);
     words(b"n");
     field(b' ', outcome as u64);
     field(b' ', value);
     field(b' ', suffix as u64);
+    field(b' ', base as u64);
     field(b' ', reason as u64);
 }
 
 fn numeral_answer(spelling: &[u8]) {
     let answer = numeral::answer(spelling);
     match answer {
-        Answer::Number { value, suffix } => {
+        Answer::Number {
+            value,
+            suffix,
+            base,
+        } => {
             words(b" number");
             field(b' ', value);
             field(b' ', suffix as u64);
+            field(b' ', base as u64);
         }
         Answer::Long => words(b" long"),
         Answer::Spelling => words(b" spelling"),

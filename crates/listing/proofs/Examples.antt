@@ -3,13 +3,13 @@ use mathlib.Core.Path.{_≡_, refl}
 use mathlib.Core.List.{[], _∷_}
 use native.Mathlib.Omega.{arith}
 use Rattle.patterns.specs.Bytes.{bytes}
-use Rattle.listing.specs.Json.{digits, powers, decimal, following, array, quoted, names, kindName, row, listing, diagnosticRow, diagnosticRows, refusal}
+use Rattle.listing.specs.Json.{digits, powers, decimal, following, array, quoted, names, kindName, sixth, row, listing, diagnosticRow, diagnosticRows, refusal}
 use Rattle.listing.proofs.Decimal.{fewest}
 
 -- `const A = 1;`
-pub worked : listing (record { kind = 1; start = 6; end = 7; children = 0; value = 0 } ∷ record { kind = 7; start = 10; end = 11; children = 0; value = 1 } ∷ record { kind = 27; start = 0; end = 12; children = 2; value = 0 } ∷ [])
-    ≡ bytes "[[\"Name\",6,7,0,0],[\"Literal\",10,11,0,1],[\"Const\",0,12,2,0]]"
-unfolding listing array following row quoted kindName names decimal digits powers
+pub worked : listing (record { kind = 1; base = 0; start = 6; end = 7; children = 0; value = 0 } ∷ record { kind = 7; base = 10; start = 10; end = 11; children = 0; value = 1 } ∷ record { kind = 27; base = 0; start = 0; end = 12; children = 2; value = 0 } ∷ [])
+    ≡ bytes "[[\"Name\",6,7,0,0],[\"Literal\",10,11,0,1,10],[\"Const\",0,12,2,0]]"
+unfolding listing array following row sixth quoted kindName names decimal digits powers
 worked = refl
 
 -- `@`

@@ -5,7 +5,7 @@ use Prim.Native.Nat.{ℕ, zero, suc, _+_, _/_, _%_, _^_}
 use Prim.Native.String.{String}
 use lib.Dec.{leb}
 use lib.ListN.{getD}
-use Rattle.patterns.specs.Bytes.{bytes}
+use Rattle.patterns.specs.Bytes.{bytes, within}
 use Rattle.tables.specs.Tables.{Node, Diagnostic}
 
 -- the last k decimal digits of n, the most significant first
@@ -55,9 +55,13 @@ kindName k = bytes (getD ("" ∷ names) k "")
 abbrev pub valueText : ℕ → List ℕ
 valueText v = decimal v
 
+-- the base is "a sixth field on those four kinds only": Count and the three literals, 6 to 9
+unfoldable pub sixth : ℕ → ℕ → List (List ℕ)
+sixth kind base = cond (within 6 9 kind) (decimal base ∷ []) []
+
 -- "Fields: kind, start, end, children, value"
 unfoldable pub row : Node → List ℕ
-row n = array (quoted (kindName (n .kind)) ∷ decimal (n .start) ∷ decimal (n .end) ∷ decimal (n .children) ∷ valueText (n .value) ∷ [])
+row n = array (quoted (kindName (n .kind)) ∷ decimal (n .start) ∷ decimal (n .end) ∷ decimal (n .children) ∷ valueText (n .value) ∷ sixth (n .kind) (n .base))
 
 -- "The listing prints every node lent to it"; without nodes `[]`
 unfoldable pub listing : List Node → List ℕ

@@ -1,6 +1,6 @@
 -- The contracts of the private functions. Assumes nothing.
 use mathlib.Core.Path.{_≡_}
-use mathlib.Core.List.{List, _∷_, _++_}
+use mathlib.Core.List.{List, [], _∷_, _++_}
 use Prim.Native.Nat.{ℕ, _-_, _≤_, _<_}
 use Prim.Native.String.{String}
 use lib.ListN.{length, take, replicate}
@@ -18,6 +18,11 @@ pub data Holds (t : List ℕ) (at : ℕ) (out : List ℕ) : Type 0 where
 -- whatever text stood before, w now follows it
 pub record Writes (w : List ℕ) (at : ℕ) (T : List ℕ) (r : ℕ) (U : List ℕ) : Type 0 where
   pub on : (t : List ℕ) → Holds t at T → Holds (t ++ w) r U
+
+-- the values that end an array, each after a comma
+unfoldable pub added : List (List ℕ) → List ℕ
+added [] = []
+added (w ∷ l) = 44 ∷ w ++ added l
 
 -- the answer r and the bytes U for the text that T holds
 pub record Finishes (at : ℕ) (T U : List ℕ) (r : Listed) : Type 0 where

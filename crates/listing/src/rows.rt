@@ -6,9 +6,9 @@ use tables::node;
 ghost use mathlib.Core.Path.{_≡_};
 ghost use mathlib.Core.List.{_∷_};
 ghost use Rattle.tables.specs.Tables.{nodeAt, nodesOf, diagnosticAt, diagnosticsOf};
-ghost use Rattle.listing.specs.Json.{decimal, kindName, valueText, row, listing, diagnosticRow, diagnosticRows};
+ghost use Rattle.listing.specs.Json.{decimal, kindName, valueText, sixth, row, listing, diagnosticRow, diagnosticRows};
 ghost use Rattle.listing.specs.Answers.{known, allKnown};
-ghost use Rattle.listing.specs.Writes.{Writes, nameTable};
+ghost use Rattle.listing.specs.Writes.{Writes, added, nameTable};
 
 fn is_known(kind: u8) -> bool
     ensures { λ r. ⌜ r ≡ known kind ⌝ }
@@ -63,18 +63,33 @@ fn put_next(out: &mut [u8], at: usize, n: u64) -> usize
     put_number(out, next, n)
 }
 
+// The base, on Count and the three literals alone.
+fn put_base(out: &mut [u8], at: usize, kind: u8, base: u8) -> usize
+    ensures { λ r. ⌜ Writes (added (sixth kind base)) at (now (out .entry)) r (now (out .exit)) ⌝ }
+{
+    if kind < 6 {
+        return at;
+    }
+    if kind > 9 {
+        return at;
+    }
+    put_next(out, at, base as u64)
+}
+
 fn node_row(names: &[u8], nodes: &[u8], i: usize, out: &mut [u8], at: usize) -> usize
     requires { ⌜ now names ≡ nameTable ⌝ }
     ensures { λ r. ⌜ Writes (row (nodeAt (now (nodes .entry)) i)) at (now (out .entry)) r (now (out .exit)) ⌝ }
 {
+    let kind = node::kind(nodes, i);
     let mut next = put(out, at, b"[\"");
-    next = put_name(names, node::kind(nodes, i), out, next);
+    next = put_name(names, kind, out, next);
     next = put(out, next, b"\"");
     next = put_next(out, next, node::start(nodes, i) as u64);
     next = put_next(out, next, node::end(nodes, i) as u64);
     next = put_next(out, next, node::children(nodes, i) as u64);
     next = put(out, next, b",");
     next = put_value(out, next, node::value(nodes, i));
+    next = put_base(out, next, kind, node::base(nodes, i));
     put(out, next, b"]")
 }
 

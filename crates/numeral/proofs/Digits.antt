@@ -79,6 +79,6 @@ module _ {base x : ℕ} {s : List ℕ} where
   unfolding reading
   read-format {v} {i} {d} p h e k = sym (p .so-far ∙ rw (drop-cons s i 0 h, no-digit base _ d e k))
 
-  pub read-end : {v i : ℕ} → Read base x s v i → length s ≤ i → Number v x ≡ reading base x 0 s
+  pub read-end : {v i : ℕ} → Read base x s v i → length s ≤ i → Number v x base ≡ reading base x 0 s
   unfolding reading
   read-end {v} {i} p h = sym (p .so-far ∙ rw (drop-of-length-le s h))

@@ -16,7 +16,7 @@ use Rattle.patterns.proofs.Runs.{Passed, passed-more, passed-stop, passed-end, 
 use Rattle.numeral.specs.Spelling.{Spelling}
 use Rattle.numeral.specs.Numeral.{digitOf, numeralOf}
 use Rattle.numeral.specs.Steps.{spelled}
-use Rattle.numeral.specs.Entry.{AnswerIs, Answered, long, spelling, overflow, format, number, outcomeOf, valueOf, suffixOf, reasonOf}
+use Rattle.numeral.specs.Entry.{AnswerIs, Answered, long, spelling, overflow, format, number, outcomeOf, valueOf, suffixOf, baseOf, reasonOf}
 use Rattle.numeral.specs.declared.NumberLiteral.{NumberLiteral}
 use Rattle.numeral.specs.declared.NumberLiteral.the-variants as literal
 use Rattle.numeral.specs.declared.outcome.Answer.{Answer}
@@ -105,12 +105,12 @@ module _ (s : List ℕ) (r : Bool) (h : length s ≤ 65535) (e : r ≡ spelled s
   pub answer-format : (l : NumberLiteral) → not r ≡ false → l ≡ numeralOf s → l ≡ literal.InvalidFormat → AnswerIs s (variant.Lexical 3)
   answer-format l q p k = format h (is-spelling q) (sym p ∙ k)
 
-  pub answer-number : (l : NumberLiteral) (v x : ℕ) → not r ≡ false → l ≡ numeralOf s → l ≡ literal.Number v x → AnswerIs s (variant.Number v x)
-  answer-number l v x q p k = number h (is-spelling q) (sym p ∙ k)
+  pub answer-number : (l : NumberLiteral) (v x b : ℕ) → not r ≡ false → l ≡ numeralOf s → l ≡ literal.Number v x b → AnswerIs s (variant.Number v x b)
+  answer-number l v x b q p k = number h (is-spelling q) (sym p ∙ k)
 
 -- ---- the answer, and what the C entry leaves, are determined
 literalAnswer : NumberLiteral → Answer
-literalAnswer (literal.Number v x) = variant.Number v x
+literalAnswer (literal.Number v x b) = variant.Number v x b
 literalAnswer literal.Overflow = variant.Lexical 2
 literalAnswer literal.InvalidFormat = variant.Lexical 3
 
@@ -132,12 +132,12 @@ answer-of {s} (spelling h f) = rw (le-ltb 65535 (length s) h, go (spelled s) ref
     go false e = e
 answer-of {s} (overflow h p e) = answer-read s literal.Overflow h p e
 answer-of {s} (format h p e) = answer-read s literal.InvalidFormat h p e
-answer-of {s} (number {value} {suffix} h p e) = answer-read s (literal.Number value suffix) h p e
+answer-of {s} (number {value} {suffix} {base} h p e) = answer-read s (literal.Number value suffix base) h p e
 
 pub answer-unique : {s : List ℕ} {a b : Answer} → AnswerIs s a → AnswerIs s b → a ≡ b
 answer-unique p q = answer-of p ∙ sym (answer-of q)
 
-pub entry-unique : {s : List ℕ} {o v x r o′ v′ x′ r′ : ℕ} → Answered s o v x r → Answered s o′ v′ x′ r′ → (o ≡ o′) × (v ≡ v′) × (x ≡ x′) × (r ≡ r′)
+pub entry-unique : {s : List ℕ} {o v x b r o′ v′ x′ b′ r′ : ℕ} → Answered s o v x b r → Answered s o′ v′ x′ b′ r′ → (o ≡ o′) × (v ≡ v′) × (x ≡ x′) × (b ≡ b′) × (r ≡ r′)
 entry-unique p q =
     let e = answer-unique (p .is) (q .is) in
-    (p .outcome-is ∙ ap outcomeOf e ∙ sym (q .outcome-is), p .value-is ∙ ap valueOf e ∙ sym (q .value-is), p .suffix-is ∙ ap suffixOf e ∙ sym (q .suffix-is), p .reason-is ∙ ap reasonOf e ∙ sym (q .reason-is))
+    (p .outcome-is ∙ ap outcomeOf e ∙ sym (q .outcome-is), p .value-is ∙ ap valueOf e ∙ sym (q .value-is), p .suffix-is ∙ ap suffixOf e ∙ sym (q .suffix-is), p .base-is ∙ ap baseOf e ∙ sym (q .base-is), p .reason-is ∙ ap reasonOf e ∙ sym (q .reason-is))

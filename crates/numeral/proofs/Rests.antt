@@ -46,16 +46,16 @@ module _ (base : ℕ) (s : List ℕ) (k : ℕ) (e : k ≡ cutOf base s) where
   unfolding restOf readTo digitIn digitOf suffixKind
   rest-end r h p u = u ∙ rw (← e, ne-eqb k 0 h, List·getD-eq-default s 0 p, drop-of-length-le s p, take-all k s p)
 
--- ---- a rest that is all digits: neither word occurs in it, since l and u are no digits
-digits-all : (base x v : ℕ) (s : List ℕ) (a b : ℕ) → reading base x v s ≡ Number a b → All (digitIn base) s
+-- ---- a rest that is all digits, and the base that is told: neither word occurs in it, since l and u are no digits
+digits-all : (base x v : ℕ) (s : List ℕ) (a b d : ℕ) → reading base x v s ≡ Number a b d → All (digitIn base) s × (d ≡ base)
 unfolding reading
-digits-all base x v [] a b e = tt
-digits-all base x v (c ∷ s) a b e = go (digitIn base c) refl (ltb most (v * base + digitOf c)) e (digits-all base x (v * base + digitOf c) s a b)
+digits-all base x v [] a b d e = (tt, cc)
+digits-all base x v (c ∷ s) a b d e = go (digitIn base c) refl (ltb most (v * base + digitOf c)) e (digits-all base x (v * base + digitOf c) s a b d)
   where
-    go : (t : Bool) → digitIn base c ≡ t → (o : Bool) → cond t (cond o Overflow (reading base x (v * base + digitOf c) s)) InvalidFormat ≡ Number a b
-        → (reading base x (v * base + digitOf c) s ≡ Number a b → All (digitIn base) s) → All (digitIn base) (c ∷ s)
+    go : (t : Bool) → digitIn base c ≡ t → (o : Bool) → cond t (cond o Overflow (reading base x (v * base + digitOf c) s)) InvalidFormat ≡ Number a b d
+        → (reading base x (v * base + digitOf c) s ≡ Number a b d → All (digitIn base) s × (d ≡ base)) → All (digitIn base) (c ∷ s) × (d ≡ base)
     go true p true e f = absurd (let z : _≡_ {A = ℕ} 0 1 = cc in omega arith)
-    go true p false e f = (p, f e)
+    go true p false e f = ((p, f e .0), f e .1)
     go false p o e f = absurd (let z : _≡_ {A = ℕ} 0 1 = cc in omega arith)
 
 all-at : (f : ℕ → Bool) (s : List ℕ) (i : ℕ) → All f s → i < length s → f (getD s i 0) ≡ true
@@ -80,10 +80,10 @@ no-word base w s j b a h e (suc k) = go (starts w (drop k s)) refl (no-word base
         absurd (omega (arith, ltb-true (digitOf (getD s (k + j) 0)) base (all-at (digitIn base) s (k + j) a i), ap digitOf q))
     go false p r = r
 
-pub rest-whole : (base : ℕ) (s : List ℕ) (r : NumberLiteral) (v x : ℕ) → base ≤ 16 → (length s ≡ 0 → ⊥) → r ≡ reading base 0 0 s → r ≡ Number v x → r ≡ restOf base s
+pub rest-whole : (base : ℕ) (s : List ℕ) (r : NumberLiteral) (v x d : ℕ) → base ≤ 16 → (length s ≡ 0 → ⊥) → r ≡ reading base 0 0 s → r ≡ Number v x d → r ≡ restOf base s
 unfolding lastOf digitOf
-rest-whole base s r v x b h e n =
-    let a = digits-all base 0 0 s v x (sym e ∙ n) in
+rest-whole base s r v x d b h e n =
+    let a = digits-all base 0 0 s v x d (sym e ∙ n) .0 in
     let c = cut-none base s (length s) (length s) (length s) (no-word base (bytes "felt") s 2 b a (lit< tt) (lit≤ tt) (length s)) (no-word base (bytes "u32") s 0 b a (lit< tt) (lit≤ tt) (length s)) (sym (run-whole (digitIn base) s a)) (le-refl _) (le-refl _) (le-refl _) (le-refl _) in
     rest-end base s (length s) c r h (le-refl _) e
 
@@ -113,6 +113,17 @@ pub base-none : (s : List ℕ) → getD s 0 0 ≡ 48 → ((getD s 1 0 ≡ 88) �
 unfolding baseOf
 base-none s e f g h = rw (e, either-no "x" "X" (getD s 1 0) f, either-no "o" "O" (getD s 1 0) g, either-no "b" "B" (getD s 1 0) h)
 
+pub base-small : (s : List ℕ) → baseOf s ≤ 16
+unfolding baseOf
+base-small s = go (eqb (getD s 0 0) 48) (in-set (either "x" "X") (getD s 1 0)) (in-set (either "o" "O") (getD s 1 0)) (in-set (either "b" "B") (getD s 1 0))
+  where
+    go : (a b c d : Bool) → cond a (cond b 16 (cond c 8 (cond d 2 10))) 10 ≤ 16
+    go true true c d = omega arith
+    go true false true d = omega arith
+    go true false false true = omega arith
+    go true false false false = omega arith
+    go false b c d = omega arith
+
 pub base-long : (s : List ℕ) (r : ℕ) → r ≡ baseOf s → (r ≡ 10 → ⊥) → 2 ≤ length s
 base-long s r e h = elim (decLe 2 (length s)) [ yes p ↦ p | no p ↦ absurd (h (e ∙ sym (base-short s (omega arith)))) ]
 
@@ -123,3 +134,13 @@ ten-is s b r e h p = p ∙ rw (← e, h)
 pub other-is : (s : List ℕ) (b : ℕ) (r : NumberLiteral) → b ≡ baseOf s → (b ≡ 10 → ⊥) → r ≡ restOf b (take (length s - 2) (drop 2 s)) → r ≡ numeralOf s
 unfolding numeralOf
 other-is s b r e h p = p ∙ rw (← e, ne-eqb b 10 h, rest-is)
+
+-- the base that an answer tells is the one that the spelling's beginning sets
+pub base-told : (s : List ℕ) {v x d : ℕ} → numeralOf s ≡ Number v x d → d ≡ baseOf s
+unfolding numeralOf restOf readTo
+base-told s {v} {x} {d} e = let b = baseOf s in let t = cond (eqb b 10) s (drop 2 s) in let k = cutOf b t in go (eqb k 0) (digitIn 10 (getD t k 0)) (suffixKind (drop k t)) (take k t) e
+  where
+    go : (f g : Bool) (y : ℕ) (t : List ℕ) → cond f InvalidFormat (cond g InvalidFormat (reading (baseOf s) y 0 t)) ≡ Number v x d → d ≡ baseOf s
+    go true g y t e = absurd (let z : _≡_ {A = ℕ} 0 1 = cc in omega arith)
+    go false true y t e = absurd (let z : _≡_ {A = ℕ} 0 1 = cc in omega arith)
+    go false false y t e = digits-all (baseOf s) y 0 t v x d e .1

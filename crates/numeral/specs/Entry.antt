@@ -15,41 +15,49 @@ pub data AnswerIs (s : List ℕ) : Answer → Type 0 where
   spelling : length s ≤ 65535 → (pattern.Spelling s → ⊥) → AnswerIs s Spelling
   overflow : length s ≤ 65535 → pattern.Spelling s → numeralOf s ≡ literal.Overflow → AnswerIs s (Lexical 2)
   format : length s ≤ 65535 → pattern.Spelling s → numeralOf s ≡ literal.InvalidFormat → AnswerIs s (Lexical 3)
-  number : {value suffix : ℕ} → length s ≤ 65535 → pattern.Spelling s → numeralOf s ≡ literal.Number value suffix → AnswerIs s (Number value suffix)
+  number : {value suffix base : ℕ} → length s ≤ 65535 → pattern.Spelling s → numeralOf s ≡ literal.Number value suffix base → AnswerIs s (Number value suffix base)
 
 -- the outcomes' numbers
 abbrev pub outcomeOf : Answer → ℕ
-outcomeOf (Number value suffix) = 0
+outcomeOf (Number value suffix base) = 0
 outcomeOf Long = 1
 outcomeOf Spelling = 9
 outcomeOf (Lexical reason) = 3
 
 -- the value; refused, it is 0
 abbrev pub valueOf : Answer → ℕ
-valueOf (Number value suffix) = value
+valueOf (Number value suffix base) = value
 valueOf Long = 0
 valueOf Spelling = 0
 valueOf (Lexical reason) = 0
 
 -- the suffix; refused, it is 0
 abbrev pub suffixOf : Answer → ℕ
-suffixOf (Number value suffix) = suffix
+suffixOf (Number value suffix base) = suffix
 suffixOf Long = 0
 suffixOf Spelling = 0
 suffixOf (Lexical reason) = 0
 
+-- the base; refused, it is 0
+abbrev pub baseOf : Answer → ℕ
+baseOf (Number value suffix base) = base
+baseOf Long = 0
+baseOf Spelling = 0
+baseOf (Lexical reason) = 0
+
 -- for 3, the reason; else 0
 abbrev pub reasonOf : Answer → ℕ
-reasonOf (Number value suffix) = 0
+reasonOf (Number value suffix base) = 0
 reasonOf Long = 0
 reasonOf Spelling = 0
 reasonOf (Lexical reason) = reason
 
--- the numeral entry answers outcome, value, suffix and, for 3, the reason
-pub record Answered (s : List ℕ) (outcome value suffix reason : ℕ) : Type 0 where
+-- the numeral entry answers outcome, value, suffix, base and, for 3, the reason
+pub record Answered (s : List ℕ) (outcome value suffix base reason : ℕ) : Type 0 where
   pub answer : Answer
   pub is : AnswerIs s answer
   pub outcome-is : outcome ≡ outcomeOf answer
   pub value-is : value ≡ valueOf answer
   pub suffix-is : suffix ≡ suffixOf answer
+  pub base-is : base ≡ baseOf answer
   pub reason-is : reason ≡ reasonOf answer

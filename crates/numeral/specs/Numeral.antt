@@ -1,4 +1,4 @@
--- What a numeral's spelling says: its value and its suffix, or why it has none. After lexer.rs's `parse_number_literal`. Assumes nothing.
+-- What a numeral's spelling says: its value, its suffix and its base, or why it has none. After lexer.rs's `parse_number_literal`. Assumes nothing.
 use mathlib.Core.Bool.{Bool, cond, _&&_}
 use mathlib.Core.List.{List, [], _∷_}
 use Prim.Native.Nat.{ℕ, zero, suc, _+_, _-_, _*_, min}
@@ -68,7 +68,7 @@ suffixKind s = cond (eqb (length s) 0) 0 (cond (same (bytes "felt") s) 1 (cond (
 -- digits are read left to right, here after the value v and with the suffix x: a non-digit is a format error; else a value above 18446744073709551615 is an overflow
 unfoldable pub reading : ℕ → ℕ → ℕ → List ℕ → NumberLiteral
 unfolding digitIn digitOf
-reading base x v [] = Number v x
+reading base x v [] = Number v x base
 reading base x v (b ∷ s) =
     cond (digitIn base b)
     (cond (ltb most (v * base + digitOf b)) Overflow (reading base x (v * base + digitOf b) s))

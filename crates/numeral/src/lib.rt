@@ -1,4 +1,4 @@
-// The value and the suffix of a numeral's spelling, after lexer.rs.
+// The value, the suffix and the base of a numeral's spelling, after lexer.rs.
 mod outcome;
 
 pub use outcome::Answer;
@@ -18,7 +18,7 @@ ghost use Rattle.numeral.specs.Steps.{spelled};
 ghost use Rattle.numeral.specs.Numeral.{most, baseOf, digitOf, digitIn, lastOf, cutAt, cutOf, suffixKind, reading, restOf, numeralOf};
 
 pub enum NumberLiteral {
-    Number { value: u64, suffix: u8 },
+    Number { value: u64, suffix: u8, base: u8 },
     Overflow,
     InvalidFormat,
 }
@@ -49,26 +49,28 @@ fn overflows(v: u64, base: u64, d: u64) -> bool
 }
 
 // The value of a run of digits.
-fn from_str_radix(number_str: &[u8], base: u64, suffix: u8) -> NumberLiteral
+fn from_str_radix(number_str: &[u8], base: u8, suffix: u8) -> NumberLiteral
     requires { ⌜ base ≤ 16 ⌝ }
     ensures { λ r. ⌜ r ≡ reading base suffix 0 (now («number_str» .entry)) ⌝ }
 {
+    let radix = base as u64;
     let mut v: u64 = 0;
     let mut i = 0;
     while i < number_str.len() {
         let d = digit_of(number_str[i]) as u64;
-        if d >= base {
+        if d >= radix {
             return NumberLiteral::InvalidFormat;
         }
-        if overflows(v, base, d) {
+        if overflows(v, radix, d) {
             return NumberLiteral::Overflow;
         }
-        v = v * base + d;
+        v = v * radix + d;
         i += 1;
     }
     NumberLiteral::Number {
         value: v,
         suffix: suffix,
+        base: base,
     }
 }
 
@@ -87,12 +89,12 @@ fn rfind(s: &[u8], w: &[u8]) -> usize
 }
 
 // How many bytes from the start are digits of the base.
-fn digit_run(s: &[u8], base: u64) -> usize
+fn digit_run(s: &[u8], base: u8) -> usize
     ensures { λ r. ⌜ r ≡ run (digitIn base) (now (s .entry)) ⌝ }
 {
     let mut i = 0;
     while i < s.len() {
-        if digit_of(s[i]) as u64 >= base {
+        if digit_of(s[i]) >= base {
             return i;
         }
         i += 1;
@@ -125,7 +127,7 @@ fn smaller(a: usize, b: usize) -> usize
 }
 
 // Where the number ends and the suffix begins.
-fn digit_end(s: &[u8], base: u64) -> usize
+fn digit_end(s: &[u8], base: u8) -> usize
     ensures { λ r. ⌜ r ≡ cutOf base (now (s .entry)) ⌝ }
 {
     let n = s.len();
@@ -158,7 +160,7 @@ fn suffix_kind(s: &[u8]) -> u8
 }
 
 // What the rest after the base's prefix says.
-fn parse_remaining(remaining: &[u8], base: u64) -> NumberLiteral
+fn parse_remaining(remaining: &[u8], base: u8) -> NumberLiteral
     requires { ⌜ base ≤ 16 ⌝ }
     ensures { λ r. ⌜ r ≡ restOf base (now (remaining .entry)) ⌝ }
 {
@@ -169,6 +171,7 @@ fn parse_remaining(remaining: &[u8], base: u64) -> NumberLiteral
     if let NumberLiteral::Number {
         value: _,
         suffix: _,
+        base: _,
     } = whole {
         return whole;
     }
@@ -187,7 +190,7 @@ fn parse_remaining(remaining: &[u8], base: u64) -> NumberLiteral
 }
 
 // The base that a leading 0x, 0o or 0b sets.
-fn base_of(slice: &[u8]) -> u64
+fn base_of(slice: &[u8]) -> u8
     ensures { λ r. ⌜ (r ≡ baseOf (now (slice .entry))) × (r ≤ 16) ⌝ }
 {
     if slice.len() < 2 {
@@ -261,7 +264,15 @@ pub fn answer(spelling: &[u8]) -> Answer
     }
     let literal = parse_number_literal(spelling);
     match literal {
-        NumberLiteral::Number { value, suffix } => Answer::Number { value, suffix },
+        NumberLiteral::Number {
+            value,
+            suffix,
+            base,
+        } => Answer::Number {
+            value,
+            suffix,
+            base,
+        },
         NumberLiteral::Overflow => Answer::Lexical { reason: 2 },
         NumberLiteral::InvalidFormat => Answer::Lexical { reason: 3 },
     }
@@ -273,13 +284,15 @@ pub extern "C" fn cairo_m_numeral(
     spelling: &[u8],
     value: &mut u64,
     suffix: &mut u8,
+    base: &mut u8,
     reason: &mut u8,
 ) -> u32
-    ensures { λ r. ⌜ Answered (now (spelling .entry)) r (now (value .exit)) (now (suffix .exit)) (now (reason .exit)) ⌝ }
+    ensures { λ r. ⌜ Answered (now (spelling .entry)) r (now (value .exit)) (now (suffix .exit)) (now (base .exit)) (now (reason .exit)) ⌝ }
 {
     let a = answer(spelling);
     *value = value_of(a);
     *suffix = suffix_of(a);
+    *base = outcome::base_of(a);
     *reason = reason_of(a);
     outcome_of(a)
 }

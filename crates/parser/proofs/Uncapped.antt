@@ -26,8 +26,8 @@ all-same zero e = refl
 all-same (suc k) no-node = refl
 all-same (suc k) (node {n = n} f e) = ap₂ _++_ (entry-same n f) (all-same k e)
 
--- a text of at most 65,535 bytes, with its tokens in order and values of 64 bits: what `parse` leaves is the table of the tree's nodes
-pub uncapped : {x : Input} {ns : List Node} {us : List Token} → Ordered x → length (x .text) ≤ 65535 → ((i : ℕ) → i < length (x .tokens) → token x i .value < 2 ^ 64) → Tree x ns us
+-- a text of at most 65,535 bytes, with its tokens in order, bases of 8 bits and values of 64: what `parse` leaves is the table of the tree's nodes
+pub uncapped : {x : Input} {ns : List Node} {us : List Token} → Ordered x → length (x .text) ≤ 65535 → ((i : ℕ) → i < length (x .tokens) → (token x i .base < 256) × (token x i .value < 2 ^ 64)) → Tree x ns us
     → (n : ℕ) → table 16 entryOf n ns ≡ nodeTable n ns
 unfolding table
 uncapped o l v t n = ap (filled n) (all-same (n / 16) (fits o l v t))

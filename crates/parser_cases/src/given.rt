@@ -13,13 +13,14 @@ pub fn tokens(line: &[u8], at: usize, table: &mut [u8]) -> usize {
     next
 }
 
-// Kind, suffix, start, end and value, each with one byte after it.
+// Kind, suffix, start, end, value and base, each with one byte after it.
 fn entry(line: &[u8], at: usize, table: &mut [u8], i: usize) -> usize {
     let kind = number(line, at);
     let suffix = number(line, kind.next);
     let start = number(line, suffix.next);
     let end = number(line, start.next);
     let value = number(line, end.next);
+    let base = number(line, value.next);
     put_token(
         table,
         i,
@@ -27,9 +28,10 @@ fn entry(line: &[u8], at: usize, table: &mut [u8], i: usize) -> usize {
         byte(suffix.value),
         half(start.value),
         half(end.value),
+        byte(base.value),
         value.value as u64,
     );
-    value.next
+    base.next
 }
 
 fn byte(n: usize) -> u8 {

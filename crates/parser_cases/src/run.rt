@@ -55,7 +55,7 @@ fn once(line: &[u8], at: usize, tokens: &mut [u8], from: usize, count: usize) ->
     let mut end = from;
     for _ in 0..count {
         let kind = number(line, next);
-        put_token(tokens, end, (kind.value % 0x100) as u8, 0, 0, 0, 0);
+        put_token(tokens, end, (kind.value % 0x100) as u8, 0, 0, 0, 0, 0);
         next = kind.next;
         end = after(end, room(tokens));
     }

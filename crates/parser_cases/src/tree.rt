@@ -40,7 +40,7 @@ fn least(a: usize, b: usize) -> usize {
 
 // The bytes that should be zero and are not, then each node.
 fn print_table(nodes: &[u8], used: usize) {
-    field(b' ', stray(nodes, used, 16, 1, 2) as u64);
+    field(b' ', stray(nodes, used, 16, 16, 16) as u64);
     for i in 0..used {
         print_node(nodes, i);
     }
@@ -53,4 +53,5 @@ fn print_node(table: &[u8], i: usize) {
     field(b',', node::end(table, i) as u64);
     field(b',', node::children(table, i) as u64);
     field(b',', node::value(table, i));
+    field(b',', node::base(table, i) as u64);
 }

@@ -82,8 +82,8 @@ fn print_read(
 }
 
 fn print_tables(tokens: &[u8], nodes: &[u8], diagnostics: &[u8], t: usize, n: usize, d: usize) {
-    field(b' ', stray(tokens, t, 16, 6, 8) as u64);
-    field(b' ', stray(nodes, n, 16, 1, 2) as u64);
+    field(b' ', stray(tokens, t, 16, 7, 8) as u64);
+    field(b' ', stray(nodes, n, 16, 16, 16) as u64);
     field(b' ', stray(diagnostics, d, 8, 5, 8) as u64);
     print_tokens(tokens, t);
     words(b"\n");
@@ -101,6 +101,7 @@ fn print_token(table: &[u8], i: usize) {
     field(b',', token::start(table, i) as u64);
     field(b',', token::end(table, i) as u64);
     field(b',', token::value(table, i));
+    field(b',', token::base(table, i) as u64);
 }
 
 fn accepted(nodes: &[u8], count: usize) {

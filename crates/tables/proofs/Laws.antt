@@ -74,20 +74,20 @@ module _ (t : List ℕ) (i : ℕ) where
       ∙ ap (λ (b : List ℕ). sets t (i * 16) (b ++ le64 v)) first
       ∙ sym (rw (lt-ltb i (length t / 16) h))
 
-  pub stored-token : (k : Token) {t′ t″ : List ℕ} → i < length t / 16 → k .kind < 256 → k .suffix < 256 → k .start < 65536 → k .end < 65536
-      → t′ ≡ sets t (i * 16) (le64 (k .kind + k .suffix * 0x100 + k .start * 0x10000 + k .end * 0x100000000)) → t″ ≡ sets t′ (i * 16 + 8) (le64 (k .value))
+  pub stored-token : (k : Token) {t′ t″ : List ℕ} → i < length t / 16 → k .kind < 256 → k .suffix < 256 → k .start < 65536 → k .end < 65536 → k .base < 256
+      → t′ ≡ sets t (i * 16) (le64 (k .kind + k .suffix * 0x100 + k .start * 0x10000 + k .end * 0x100000000 + k .base * 0x1000000000000)) → t″ ≡ sets t′ (i * 16 + 8) (le64 (k .value))
       → t″ ≡ stored 16 t i (encodeToken k)
   unfolding encodeToken le16 le64
-  stored-token k h a b c d =
-      stored-two (k .kind + k .suffix * 0x100 + k .start * 0x10000 + k .end * 0x100000000) (k .value) h
+  stored-token k h a b c d e =
+      stored-two (k .kind + k .suffix * 0x100 + k .start * 0x10000 + k .end * 0x100000000 + k .base * 0x1000000000000) (k .value) h
       (eight (omega arith) (omega arith) (omega arith) (omega arith) (omega arith) (omega arith) (omega arith) (omega arith))
 
-  pub stored-node : (k : Node) {t′ t″ : List ℕ} → i < length t / 16 → k .kind < 256 → k .start < 65536 → k .end < 65536 → k .children < 65536
-      → t′ ≡ sets t (i * 16) (le64 (k .kind + k .start * 0x10000 + k .end * 0x100000000 + k .children * 0x1000000000000)) → t″ ≡ sets t′ (i * 16 + 8) (le64 (k .value))
+  pub stored-node : (k : Node) {t′ t″ : List ℕ} → i < length t / 16 → k .kind < 256 → k .base < 256 → k .start < 65536 → k .end < 65536 → k .children < 65536
+      → t′ ≡ sets t (i * 16) (le64 (k .kind + k .base * 0x100 + k .start * 0x10000 + k .end * 0x100000000 + k .children * 0x1000000000000)) → t″ ≡ sets t′ (i * 16 + 8) (le64 (k .value))
       → t″ ≡ stored 16 t i (encodeNode k)
   unfolding encodeNode le16 le64
-  stored-node k h a b c d =
-      stored-two (k .kind + k .start * 0x10000 + k .end * 0x100000000 + k .children * 0x1000000000000) (k .value) h
+  stored-node k h a b c d e =
+      stored-two (k .kind + k .base * 0x100 + k .start * 0x10000 + k .end * 0x100000000 + k .children * 0x1000000000000) (k .value) h
       (eight (omega arith) (omega arith) (omega arith) (omega arith) (omega arith) (omega arith) (omega arith) (omega arith))
 
   pub stored-diagnostic : (d : Diagnostic) {t′ : List ℕ} → i < length t / 8 → d .start < 65536 → d .end < 65536 → d .reason < 256
@@ -325,10 +325,12 @@ pub record TokenFits (t : Token) : Type 0 where
   pub suffix-fits : t .suffix < 256
   pub start-fits : t .start < 65536
   pub end-fits : t .end < 65536
+  pub base-fits : t .base < 256
   pub value-fits : t .value < 2 ^ 64
 
 pub record NodeFits (n : Node) : Type 0 where
   pub kind-fits : n .kind < 256
+  pub base-fits : n .base < 256
   pub start-fits : n .start < 65536
   pub end-fits : n .end < 65536
   pub children-fits : n .children < 65536
@@ -354,12 +356,12 @@ word-decoded v h =
 token-decoded : (t : Token) → TokenFits t → decodeToken (encodeToken t) ≡ t
 unfolding encodeToken le16 le64 number
 token-decoded t h =
-    rw (add-zero (t .kind), add-zero (t .suffix), half-decoded (t .start) (h .start-fits), half-decoded (t .end) (h .end-fits), word-decoded (t .value) (h .value-fits))
+    rw (add-zero (t .kind), add-zero (t .suffix), half-decoded (t .start) (h .start-fits), half-decoded (t .end) (h .end-fits), add-zero (t .base), word-decoded (t .value) (h .value-fits))
 
 node-decoded : (n : Node) → NodeFits n → decodeNode (encodeNode n) ≡ n
 unfolding encodeNode le16 le64 number
 node-decoded n h =
-    rw (add-zero (n .kind), half-decoded (n .start) (h .start-fits), half-decoded (n .end) (h .end-fits), half-decoded (n .children) (h .children-fits), word-decoded (n .value) (h .value-fits))
+    rw (add-zero (n .kind), add-zero (n .base), half-decoded (n .start) (h .start-fits), half-decoded (n .end) (h .end-fits), half-decoded (n .children) (h .children-fits), word-decoded (n .value) (h .value-fits))
 
 diagnostic-decoded : (d : Diagnostic) → DiagnosticFits d → decodeDiagnostic (encodeDiagnostic d) ≡ d
 unfolding encodeDiagnostic le16 number
@@ -379,22 +381,22 @@ diagnostic-read n ds i d h k fits =
 
 -- a token of kind 0, all else 0 too
 abbrev pub zero-token : Token
-zero-token = record { kind = 0; suffix = 0; start = 0; end = 0; value = 0 }
+zero-token = record { kind = 0; suffix = 0; start = 0; end = 0; base = 0; value = 0 }
 
 token-none : (b : List ℕ) → ((a k : ℕ) → a + k ≤ 16 → number b a k ≡ 0) → decodeToken b ≡ zero-token
-token-none b h = rw (h 0 1 (omega arith), h 1 1 (omega arith), h 2 2 (omega arith), h 4 2 (omega arith), h 8 8 (omega arith))
+token-none b h = rw (h 0 1 (omega arith), h 1 1 (omega arith), h 2 2 (omega arith), h 4 2 (omega arith), h 6 1 (omega arith), h 8 8 (omega arith))
 
 pub token-past : (n : ℕ) (ts : List Token) (i : ℕ) → length ts ≤ i → tokenAt (tokenTable n ts) i ≡ zero-token
 token-past n ts i h = token-none (entryAt 16 (tokenTable n ts) i) (number-past encodeToken 16 (omega arith) token-size n ts i h)
 
 -- a node of kind 0, likewise
 abbrev pub zero-node : Node
-zero-node = record { kind = 0; start = 0; end = 0; children = 0; value = 0 }
+zero-node = record { kind = 0; base = 0; start = 0; end = 0; children = 0; value = 0 }
 
 pub node-past : (n : ℕ) (ns : List Node) (i : ℕ) → length ns ≤ i → nodeAt (nodeTable n ns) i ≡ zero-node
 node-past n ns i h =
     let past = number-past encodeNode 16 (omega arith) node-size n ns i h in
-    rw (past 0 1 (omega arith), past 2 2 (omega arith), past 4 2 (omega arith), past 6 2 (omega arith), past 8 8 (omega arith))
+    rw (past 0 1 (omega arith), past 1 1 (omega arith), past 2 2 (omega arith), past 4 2 (omega arith), past 6 2 (omega arith), past 8 8 (omega arith))
 
 pub diagnostic-past : (n : ℕ) (ds : List Diagnostic) (i : ℕ) → length ds ≤ i → diagnosticAt (diagnosticTable n ds) i ≡ record { start = 0; end = 0; reason = 0 }
 diagnostic-past n ds i h =

@@ -6,17 +6,19 @@ use lib.Dec.{ltb}
 use lib.ListN.{length, getD, take, drop, replicate}
 use lib.Seq.{sets}
 
--- `TokenType`'s order from 1, the numeral's value and suffix (0 none, 1 felt, 2 u32, 3 other), the place in the text
+-- `TokenType`'s order from 1, the numeral's value, suffix (0 none, 1 felt, 2 u32, 3 other) and base, the place in the text
 pub record Token : Type 0 where
   pub kind : ℕ
   pub suffix : ℕ
   pub start : ℕ
   pub end : ℕ
+  pub base : ℕ
   pub value : ℕ
 
--- a node has kind, start, end, number of children and a value
+-- a node has kind, start, end, number of children and a value, and the base of the numeral that it is
 pub record Node : Type 0 where
   pub kind : ℕ
+  pub base : ℕ
   pub start : ℕ
   pub end : ℕ
   pub children : ℕ
@@ -37,15 +39,15 @@ unfoldable pub le64 : ℕ → List ℕ
 le64 v =
     v % 256 ∷ v / 2 ^ 8 % 256 ∷ v / 2 ^ 16 % 256 ∷ v / 2 ^ 24 % 256 ∷ v / 2 ^ 32 % 256 ∷ v / 2 ^ 40 % 256 ∷ v / 2 ^ 48 % 256 ∷ v / 2 ^ 56 % 256 ∷ []
 
--- an entry of 16 bytes: kind u8, suffix u8, start u16, end u16, two zero bytes, value u64
+-- an entry of 16 bytes: kind u8, suffix u8, start u16, end u16, base u8, a zero byte, value u64
 unfoldable pub encodeToken : Token → List ℕ
 unfolding le16 le64
-encodeToken t = (t .kind ∷ t .suffix ∷ le16 (t .start)) ++ le16 (t .end) ++ (0 ∷ 0 ∷ le64 (t .value))
+encodeToken t = (t .kind ∷ t .suffix ∷ le16 (t .start)) ++ le16 (t .end) ++ (t .base ∷ 0 ∷ le64 (t .value))
 
--- an entry of 16 bytes: kind u8, a zero byte, start u16, end u16, children u16, value u64
+-- an entry of 16 bytes: kind u8, base u8, start u16, end u16, children u16, value u64
 unfoldable pub encodeNode : Node → List ℕ
 unfolding le16 le64
-encodeNode n = (n .kind ∷ 0 ∷ le16 (n .start)) ++ le16 (n .end) ++ le16 (n .children) ++ le64 (n .value)
+encodeNode n = (n .kind ∷ n .base ∷ le16 (n .start)) ++ le16 (n .end) ++ le16 (n .children) ++ le64 (n .value)
 
 -- an entry of 8 bytes: start u16, end u16, reason u8, three zero bytes
 unfoldable pub encodeDiagnostic : Diagnostic → List ℕ
@@ -109,11 +111,11 @@ entryAt size t i = cond (ltb i (length t / size)) (take size (drop (i * size) t)
 
 -- the token that an entry's bytes say
 abbrev pub decodeToken : List ℕ → Token
-decodeToken b = record { kind = number b 0 1; suffix = number b 1 1; start = number b 2 2; end = number b 4 2; value = number b 8 8 }
+decodeToken b = record { kind = number b 0 1; suffix = number b 1 1; start = number b 2 2; end = number b 4 2; base = number b 6 1; value = number b 8 8 }
 
 -- the node that an entry's bytes say
 abbrev pub decodeNode : List ℕ → Node
-decodeNode b = record { kind = number b 0 1; start = number b 2 2; end = number b 4 2; children = number b 6 2; value = number b 8 8 }
+decodeNode b = record { kind = number b 0 1; base = number b 1 1; start = number b 2 2; end = number b 4 2; children = number b 6 2; value = number b 8 8 }
 
 -- the diagnostic that an entry's bytes say
 abbrev pub decodeDiagnostic : List ℕ → Diagnostic

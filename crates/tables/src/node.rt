@@ -10,12 +10,13 @@ ghost use lib.ListN.{length};
 ghost use Rattle.tables.specs.Tables.{encodeNode, stored, kept, nodeAt};
 
 // Stores entry i, where there is room for it.
-pub fn put_node(t: &mut [u8], i: usize, kind: u8, start: u16, end: u16, children: u16, value: u64)
-    ensures { λ r. ⌜ now (t .exit) ≡ stored 16 (now (t .entry)) i (encodeNode (record { kind = kind; start = start; end = end; children = children; value = value })) ⌝ }
+pub fn put_node(t: &mut [u8], i: usize, kind: u8, base: u8, start: u16, end: u16, children: u16, value: u64)
+    ensures { λ r. ⌜ now (t .exit) ≡ stored 16 (now (t .entry)) i (encodeNode (record { kind = kind; base = base; start = start; end = end; children = children; value = value })) ⌝ }
 {
     if i < t.len() / 16 {
         let a = i * 16;
         let w = (kind as u64)
+            + (base as u64) * 0x100
             + (start as u64) * 0x1_0000
             + (end as u64) * 0x1_0000_0000
             + (children as u64) * 0x1_0000_0000_0000;
@@ -43,6 +44,12 @@ pub fn kind(t: &[u8], i: usize) -> u8
     ensures { λ r. ⌜ r ≡ nodeAt (now (t .entry)) i .kind ⌝ }
 {
     byte(t, 16, i, 0)
+}
+
+pub fn base(t: &[u8], i: usize) -> u8
+    ensures { λ r. ⌜ r ≡ nodeAt (now (t .entry)) i .base ⌝ }
+{
+    byte(t, 16, i, 1)
 }
 
 pub fn start(t: &[u8], i: usize) -> u16

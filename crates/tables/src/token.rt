@@ -10,15 +10,16 @@ ghost use lib.ListN.{length};
 ghost use Rattle.tables.specs.Tables.{encodeToken, stored, kept, tokenAt};
 
 // Stores entry i, where there is room for it.
-pub fn put_token(t: &mut [u8], i: usize, kind: u8, suffix: u8, start: u16, end: u16, value: u64)
-    ensures { λ r. ⌜ now (t .exit) ≡ stored 16 (now (t .entry)) i (encodeToken (record { kind = kind; suffix = suffix; start = start; end = end; value = value })) ⌝ }
+pub fn put_token(t: &mut [u8], i: usize, kind: u8, suffix: u8, start: u16, end: u16, base: u8, value: u64)
+    ensures { λ r. ⌜ now (t .exit) ≡ stored 16 (now (t .entry)) i (encodeToken (record { kind = kind; suffix = suffix; start = start; end = end; base = base; value = value })) ⌝ }
 {
     if i < t.len() / 16 {
         let a = i * 16;
         let w = (kind as u64)
             + (suffix as u64) * 0x100
             + (start as u64) * 0x1_0000
-            + (end as u64) * 0x1_0000_0000;
+            + (end as u64) * 0x1_0000_0000
+            + (base as u64) * 0x1_0000_0000_0000;
         put_word(t, a, w);
         put_word(t, a + 8, value);
     }
@@ -61,6 +62,12 @@ pub fn end(t: &[u8], i: usize) -> u16
     ensures { λ r. ⌜ r ≡ tokenAt (now (t .entry)) i .end ⌝ }
 {
     half(t, 16, i, 4)
+}
+
+pub fn base(t: &[u8], i: usize) -> u8
+    ensures { λ r. ⌜ r ≡ tokenAt (now (t .entry)) i .base ⌝ }
+{
+    byte(t, 16, i, 6)
 }
 
 pub fn value(t: &[u8], i: usize) -> u64

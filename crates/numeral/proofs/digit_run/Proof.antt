@@ -20,7 +20,6 @@ digit-run-spec =
     (λ c. passed-none)
     (λ c. search needs)
     (λ c κs. search needs)
-    (λ c. search needs)
     (λ c. search (needs, passed-stop, no-digit))
     (λ c. search needs)
     (λ c. search needs)

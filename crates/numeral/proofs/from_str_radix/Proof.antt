@@ -6,10 +6,10 @@ use Rattle.numeral.proofs.from_str_radix.Statement.{statement}
 use Rattle.numeral.proofs.from_str_radix.Tie as tie
 
 abbrev Inv-loop : tie.InvT-loop
-Inv-loop number-str base suffix v₀ i₀ v i = Read base suffix number-str v i
+Inv-loop number-str base suffix radix v₀ i₀ v i = Read base suffix number-str v i
 
 abbrev μ-loop : tie.MeasureT-loop
-μ-loop number-str base suffix v₀ i₀ v i = length number-str - i
+μ-loop number-str base suffix radix v₀ i₀ v i = length number-str - i
 
 pub from-str-radix-spec : {M : Type 1} → statement M
 from-str-radix-spec =

@@ -1,8 +1,8 @@
 -- `leaf` meets its contract. Assumes nothing.
-use native.Mathlib.Omega.{arith}
+use mathlib.Core.Path.{refl}
 use borrow.Author.Needs.{needs}
 use Rattle.cursor.specs.Read.{puts}
-use Rattle.cursor.proofs.Steps.{wanted, stopped, leaves}
+use Rattle.cursor.proofs.Steps.{wanted, unwrapped, emits}
 use Rattle.cursor.proofs.Cursor.leaf.Statement.{statement}
 use Rattle.cursor.proofs.Cursor.leaf.Tie as tie
 
@@ -11,25 +11,8 @@ leaf-spec =
     tie.close
     (tie.spec
     (λ c κs. search needs)
-    (λ c. search (needs, wanted, puts, stopped))
-    (λ c κs. search needs)
-    (λ c κs. search needs)
-    (λ c κs. search needs)
-    (λ c κs. search needs)
-    (λ c κs. search needs)
     (λ c. search needs)
     (λ c.
-    let stored = c .before .before .before .before in
-    let end = stored .before .before in
-    let start = end .before in
-    let test = start .before in
-    let past = test .before .before in
-    let begin = past .before .before .before in
-    wanted (begin .args .kind) (λ h. puts (λ text. leaves
-    (past .advance .ensures)
-    (test .if1 .left)
-    (start .start .ensures)
-    (end .end .ensures)
-    (omega (arith, begin .good, begin .fits, start .start .ok, end .end .ok))
-    (rw (c .part .ensures, c .before .next .ensures))
-    (stored .put-node .ensures)))))
+    let e = c .before .before in
+    let k = e .before .before .before .before .args .kind in
+    wanted k (λ h. puts (λ text. emits text (λ s. s .unknown) (λ s. refl) (unwrapped k h (e .emit .ensures))))))

@@ -3,8 +3,7 @@ use borrow.Author.Needs.{needs}
 use Rattle.tables.specs.Tables.{tokenAt}
 use Rattle.grammar.specs.Derive.{noted}
 use Rattle.cursor.specs.Read.{puts}
-use Rattle.cursor.proofs.Laws.{one-put}
-use Rattle.cursor.proofs.Steps.{same-act}
+use Rattle.cursor.proofs.Steps.{emits}
 use Rattle.cursor.proofs.Cursor.literal.Statement.{statement}
 use Rattle.cursor.proofs.Cursor.literal.Tie as tie
 
@@ -16,11 +15,13 @@ literal-spec =
     (λ c κs. search needs)
     (λ c κs. search needs)
     (λ c κs. search needs)
+    (λ c κs. search needs)
     (λ c. search needs)
     (λ c.
     let l = c .before .before in
     let v = l .before in
-    let k = v .before .before in
+    let d = v .before in
+    let k = d .before .before in
     let b = k .before in
     let a = b .before .before .before .args in
-    puts (λ text. same-act (λ s. noted (tokenAt (a .tokens .now) (a .self .at)) s .unknown) (λ s. rw (v .value .ensures, k .literal-kind .ensures, b .suffix .ensures)) (one-put (l .leaf .ensures)))))
+    puts (λ text. emits text (λ s. noted (tokenAt (a .tokens .now) (a .self .at)) s .unknown) (λ s. rw (v .value .ensures, d .base .ensures, k .literal-kind .ensures, b .suffix .ensures)) (l .emit .ensures))))
