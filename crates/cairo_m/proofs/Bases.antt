@@ -25,41 +25,31 @@ use Rattle.cairo_m.proofs.Lexed.{ordered, fits, values, token-bases}
 use Rattle.cairo_m.proofs.Demand3.{each-at}
 
 -- what holds of each entry stored, and of one that is all zero, holds of every entry read
-tokens-read : (P : Token → Type 0) (k : ℕ) (ts : List Token) → length ts ≤ k / 16 → ((i : ℕ) → i < length ts → TokenFits (getD ts i zero-token))
-    → ((i : ℕ) → i < length ts → P (getD ts i zero-token)) → P zero-token → (i : ℕ) → P (tokenAt (tokenTable k ts) i)
-tokens-read P k ts h f p z i =
-    elim (decLt i (length ts)) [
-      | yes l ↦ subst P (sym (token-read k ts i zero-token l (omega arith) (f i l))) (p i l)
-      | no l ↦ subst P (sym (token-past k ts i (omega arith))) z
-    ]
-
-nodes-read : (P : Node → Type 0) (m : ℕ) (ns : List Node) → length ns ≤ m / 16 → ((i : ℕ) → i < length ns → NodeFits (getD ns i zero-node))
-    → ((i : ℕ) → i < length ns → P (getD ns i zero-node)) → P zero-node → (i : ℕ) → P (nodeAt (nodeTable m ns) i)
-nodes-read P m ns h f p z i =
-    elim (decLt i (length ns)) [
-      | yes l ↦ subst P (sym (node-read m ns i zero-node l (omega arith) (f i l))) (p i l)
-      | no l ↦ subst P (sym (node-past m ns i (omega arith))) z
-    ]
+entries : {A : Type 0} (P : A → Type 0) (at : ℕ → A) (l : List A) (d : A) → ((i : ℕ) → i < length l → at i ≡ getD l i d) → ((i : ℕ) → length l ≤ i → at i ≡ d)
+    → ((i : ℕ) → i < length l → P (getD l i d)) → P d → (i : ℕ) → P (at i)
+entries P at l d within past p z i = elim (decLt i (length l)) [ yes h ↦ subst P (sym (within i h)) (p i h) | no h ↦ subst P (sym (past i (omega arith))) z ]
 
 module _ (text : List ℕ) (k m : ℕ) where
   abbrev Holds : List Token → List Node → Type 0
   Holds ts ns = BasesAre text (tokenTable k ts) (nodeTable m ns)
 
-  none : Holds [] []
+  holds : (ts : List Token) (ns : List Node) → length ts ≤ k / 16 → length ns ≤ m / 16
+      → ((i : ℕ) → i < length ts → TokenFits (getD ts i zero-token) × (getD ts i zero-token .base ≡ tokenBase text (getD ts i zero-token)))
+      → ((i : ℕ) → i < length ns → NodeFits (getD ns i zero-node) × (getD ns i zero-node .base ≡ nodeBase text (getD ns i zero-node))) → Holds ts ns
   unfolding tokenBase nodeBase
-  none =
+  holds ts ns h g t n =
       record {
-        tokens = tokens-read (λ t. t .base ≡ tokenBase text t) k [] (omega arith) (λ i h. absurd (omega arith)) (λ i h. absurd (omega arith)) refl;
-        nodes = nodes-read (λ n. n .base ≡ nodeBase text n) m [] (omega arith) (λ i h. absurd (omega arith)) (λ i h. absurd (omega arith)) refl;
+        tokens = entries (λ a. a .base ≡ tokenBase text a) (λ i. tokenAt (tokenTable k ts) i) ts zero-token (λ i l. token-read k ts i zero-token l (omega arith) (t i l .0)) (token-past k ts) (λ i l. t i l .1) refl;
+        nodes = entries (λ a. a .base ≡ nodeBase text a) (λ i. nodeAt (nodeTable m ns) i) ns zero-node (λ i l. node-read m ns i zero-node l (omega arith) (n i l .0)) (node-past m ns) (λ i l. n i l .1) refl;
       }
+
+  none : Holds [] []
+  none = holds [] [] (omega arith) (omega arith) (λ i h. absurd (omega arith)) (λ i h. absurd (omega arith))
 
   some : {ts : List Token} {ns : List Node} {us : List Token} → length text ≤ 65535 → Lexes 0 text ts [] → length ts ≤ k / 16 → Tree (input text ts) ns us → length ns ≤ m / 16 → Holds ts ns
   unfolding tokenBase nodeBase
   some {ts} {ns} short l h t g =
-      record {
-        tokens = tokens-read (λ t. t .base ≡ tokenBase text t) k ts h (fits l short) (token-bases l) refl;
-        nodes = nodes-read (λ n. n .base ≡ nodeBase text n) m ns g (each-at (nodes.fits (ordered l) short (values l) t)) (λ i j. each-at (bases x baseOf told t) i j .is) refl;
-      }
+      holds ts ns h g (λ i j. (fits l short i j, token-bases l i j)) (λ i j. (each-at (nodes.fits (ordered l) short (values l) t) i j, each-at (bases x baseOf told t) i j .is))
     where
       x : Input
       x = input text ts

@@ -11,15 +11,15 @@ use Rattle.tables.specs.TokenKinds.{NUMBER}
 use Rattle.numeral.specs.Numeral.{baseOf}
 use Rattle.grammar.specs.Kinds.{Count, LiteralU32}
 
--- "Numeral tokens carry it, all others have 0": what the bytes of the token's span say
+-- numeral tokens carry the base that the bytes of their span set, all others have 0
 unfoldable pub tokenBase : List ℕ → Token → ℕ
 tokenBase text t = cond (eqb (t .kind) NUMBER) (baseOf (take (t .end - t .start) (drop (t .start) text))) 0
 
--- "the three Literal kinds and Count carry it, all others have 0": these are 6 to 9
+-- so do Count and the three literals, kinds 6 to 9; all others have 0
 unfoldable pub nodeBase : List ℕ → Node → ℕ
 nodeBase text n = cond (within Count LiteralU32 (n .kind)) (baseOf (take (n .end - n .start) (drop (n .start) text))) 0
 
--- so has every entry of a token table a and of a node table b, unused ones too
+-- every entry of a token table a and of a node table b, unused ones too
 pub record BasesAre (text a b : List ℕ) : Type 0 where
   pub tokens : (i : ℕ) → tokenAt a i .base ≡ tokenBase text (tokenAt a i)
   pub nodes : (i : ℕ) → nodeAt b i .base ≡ nodeBase text (nodeAt b i)
