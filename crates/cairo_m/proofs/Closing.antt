@@ -7,7 +7,7 @@ use lib.ListN.{length, replicate}
 use Rattle.tables.specs.Tables.{Token, Node, encodeDiagnostic, tokensOf as tokensIn, cleared, laid, table}
 use Rattle.tables.proofs.Laws.{diagnostic-size, laid-none, table-none, cleared-all, tokens-length}
 use Rattle.grammar.specs.Grammar.{Tree, Deep}
-use Rattle.grammar.specs.Suffix.{unknownNumerals}
+use Rattle.tables.specs.Suffix.{unknownNumerals}
 use Rattle.grammar.proofs.Suffix.{unknown-suffixes}
 use Rattle.grammar.proofs.Few.{few}
 use Rattle.parser.specs.Parse.{Verdict, tree, syntax, deep, VerdictIs, is-deep, is-tree, is-syntax, MAX64, entryOf, answerOf, nodesOf, ParsedIs}
@@ -55,46 +55,39 @@ module _ {text w : List ℕ} {m : ℕ} {U : List ℕ} {p : Parsed} (v : ParsedIs
   cleared-nodes : {Y : List ℕ} → Y ≡ cleared 0 U → length U ≡ m → Y ≡ table 16 entryOf m []
   cleared-nodes e l = e ∙ cleared-all U ∙ ap (λ (n : ℕ). replicate n 0) l ∙ sym (table-none entryOf 16 m)
 
-  module _ {k u : ℕ} {C c : List ℕ} (e : p ≡ Parsed.Tree k) (q : Unknown w C c u) where
-    pub closes-suffix : 0 < u → {Y : List ℕ} → Y ≡ cleared 0 U → length U ≡ m → TokensRead text w m Y C c (Reading.Suffix u)
-    closes-suffix h {Y} n l = go (subst (Seen text w m U) e (seen v)) (unknownNumerals (tokensIn w)) refl
+  -- n numerals have an unknown suffix
+  module _ {k n : ℕ} (e : p ≡ Parsed.Tree k) (z : n ≡ length (unknownNumerals (tokensIn w))) where
+    pub closes-suffix : 0 < n → {Y : List ℕ} → Y ≡ cleared 0 U → length U ≡ m → {u : ℕ} {C c : List ℕ} → Unknown w C c u → TokensRead text w m Y C c (Reading.Suffix u)
+    closes-suffix h {Y} f l {u} {C} {c} q = go (subst (Seen text w m U) e (seen v)) (unknownNumerals (tokensIn w)) refl
       where
         go : Seen text w m U (Parsed.Tree k) → (us : List Token) → unknownNumerals (tokensIn w) ≡ us → TokensRead text w m Y C c (Reading.Suffix u)
-        go (seen-tree d t k-is i) [] z = absurd (omega (arith, q .count, ap length z))
-        go (seen-tree d t k-is i) (x ∷ us) z =
+        go (seen-tree d t k-is i) [] g = absurd (omega (arith, z, ap length g))
+        go (seen-tree d t k-is i) (x ∷ us) g =
             record {
               outcome = suffix (x ∷ us);
-              is = is-suffix d (subst (Tree _ _) z t);
-              answer = ap Reading.Suffix (q .count ∙ ap length z);
-              nodes = cleared-nodes n l;
-              diagnostics = q .listed ∙ ap (λ (y : List Token). laid 8 encodeDiagnostic C (map suffixError y)) z;
+              is = is-suffix d (subst (Tree _ _) g t);
+              answer = ap Reading.Suffix (q .count ∙ ap length g);
+              nodes = cleared-nodes f l;
+              diagnostics = q .listed ∙ ap (λ (y : List Token). laid 8 encodeDiagnostic C (map suffixError y)) g;
             }
 
-    -- none has an unknown suffix, and all nodes are counted
+    -- none has, and all nodes are counted
     record Plain : Type 0 where
       ns : List Node
       shallow : Deep (input text (tokensIn w)) → ⊥
       tree-is : Tree (input text (tokensIn w)) ns []
       count : k ≡ length ns
       nodes : U ≡ table 16 entryOf m ns
-      diagnostics : c ≡ laid 8 encodeDiagnostic C []
 
-    plain : u ≤ 0 → length w < 0x1_0000_0000_0000_0000 → Plain
+    plain : n ≤ 0 → length w < 0x1_0000_0000_0000_0000 → Plain
     plain h b = go (subst (Seen text w m U) e (seen v)) (unknownNumerals (tokensIn w)) refl
       where
         go : Seen text w m U (Parsed.Tree k) → (us : List Token) → unknownNumerals (tokensIn w) ≡ us → Plain
-        go (seen-tree {ns = ns} d t k-is i) [] z =
-            record {
-              ns = ns;
-              shallow = d;
-              tree-is = subst (Tree _ _) z t;
-              count = omega (arith, k-is, few t, tokens-length w);
-              nodes = i;
-              diagnostics = q .listed ∙ ap (λ (y : List Token). laid 8 encodeDiagnostic C (map suffixError y)) z;
-            }
-        go (seen-tree d t k-is i) (x ∷ us) z = absurd (omega (arith, q .count, ap length z))
+        go (seen-tree {ns = ns} d t k-is i) [] g =
+            record { ns = ns; shallow = d; tree-is = subst (Tree _ _) g t; count = omega (arith, k-is, few t, tokens-length w); nodes = i }
+        go (seen-tree d t k-is i) (x ∷ us) g = absurd (omega (arith, z, ap length g))
 
-    pub closes-room : u ≤ 0 → length w < 0x1_0000_0000_0000_0000 → {r : ℕ} → r ≡ length U / 16 → r < k → {Y : List ℕ} → Y ≡ cleared 0 U → length U ≡ m → TokensRead text w m Y C c (Reading.NodeRoom k)
+    pub closes-room : n ≤ 0 → length w < 0x1_0000_0000_0000_0000 → {r : ℕ} → r ≡ length U / 16 → r < k → {Y : List ℕ} → Y ≡ cleared 0 U → length U ≡ m → {C : List ℕ} → TokensRead text w m Y C C (Reading.NodeRoom k)
     closes-room h b f g n l =
         let y = plain h b in
         record {
@@ -102,10 +95,10 @@ module _ {text w : List ℕ} {m : ℕ} {U : List ℕ} {p : Parsed} (v : ParsedIs
           is = is-node-room (y .shallow) (y .tree-is) (omega (arith, y .count, f, ap (λ (j : ℕ). j / 16) l));
           answer = ap Reading.NodeRoom (y .count);
           nodes = cleared-nodes n l;
-          diagnostics = y .diagnostics;
+          diagnostics = no-errors;
         }
 
-    pub closes-accepted : u ≤ 0 → length w < 0x1_0000_0000_0000_0000 → {r t : ℕ} → r ≡ length U / 16 → k ≤ r → t ≡ length w / 16 → length U ≡ m → TokensRead text w m U C c (Reading.Accepted t k)
+    pub closes-accepted : n ≤ 0 → length w < 0x1_0000_0000_0000_0000 → {r t : ℕ} → r ≡ length U / 16 → k ≤ r → t ≡ length w / 16 → length U ≡ m → {C : List ℕ} → TokensRead text w m U C C (Reading.Accepted t k)
     closes-accepted h b f g t-is l =
         let y = plain h b in
         record {
@@ -113,5 +106,5 @@ module _ {text w : List ℕ} {m : ℕ} {U : List ℕ} {p : Parsed} (v : ParsedIs
           is = is-accepted (y .shallow) (y .tree-is) (omega (arith, y .count, f, ap (λ (j : ℕ). j / 16) l));
           answer = ap₂ Reading.Accepted (t-is ∙ sym (tokens-length w)) (y .count);
           nodes = y .nodes;
-          diagnostics = y .diagnostics;
+          diagnostics = no-errors;
         }

@@ -21,10 +21,10 @@ use Rattle.lexer.specs.Kinds.{texts, fixedOf}
 use Rattle.lexer.specs.Classes.{kindFrom, nextFrom, nextOf, pairOf, classOf}
 use Rattle.lexer.specs.Tokens.{Best}
 use Rattle.lexer.specs.Lexes.{Item, itemOf, Step, matched, tokens, errors, Lexes, done, step}
-use Rattle.lexer.specs.Scans.{KindIs, no-kind, Scanned}
+use Rattle.lexer.specs.Scans.{KindIs, no-kind, Begun, Scanned}
 use Rattle.lexer.specs.declared.scan.Found.the-variants as Found
-use Rattle.lexer.proofs.Texts.{is-kind, no-pair, no-next, a-pair}
-use Rattle.lexer.proofs.Scans.{Begun, Marked, found-white, found-name, found-numeral, found-last, found-slash, found-single, found-pair}
+use Rattle.lexer.proofs.Texts.{is-kind, no-pair, a-pair, white-is}
+use Rattle.lexer.proofs.Scans.{Marked, found-white, found-name, found-numeral, found-last, found-slash, found-single, found-pair}
 use Rattle.grammar.proofs.Edge.{Row, row, rows}
 use Rattle.cairo_m.proofs.Lexed.{either-way}
 
@@ -64,14 +64,11 @@ keyword-is (suc k) w h f =
 
 -- the mark of the bytes b and d, 0 if there is none
 pair : ℕ → ℕ → ℕ
-pair b d = cond (eqb (nextOf b) 0) 0 (cond (eqb (nextOf b) d) (pairOf b) 0)
+pair b d = cond (eqb (nextOf b) d) (pairOf b) 0
 
 pair-is : (b d : ℕ) → b < 256 → KindIs 21 50 0 (b ∷ d ∷ []) (pair b d)
 unfolding pair
-pair-is b d h =
-    let P = KindIs 21 50 0 (b ∷ d ∷ []) in
-    either-way P (eqb (nextOf b) 0) (λ e. no-next refl (eqb-true _ 0 e))
-    (λ e. either-way P (eqb (nextOf b) d) (λ f. a-pair h refl (eqb-true _ d f) (eqb-false _ 0 e) refl) (λ f. no-pair refl (eqb-false _ d f)))
+pair-is b d h = either-way (KindIs 21 50 0 (b ∷ d ∷ [])) (eqb (nextOf b) d) (λ f. a-pair h refl (eqb-true _ d f) refl) (λ f. no-pair refl (eqb-false _ d f))
 
 mark : ℕ → ℕ → List ℕ → Sight
 mark c b [] = seen c 1
@@ -94,9 +91,9 @@ sight (b ∷ s) =
     let n = run (in-set word) (b ∷ s) in
     cond (ltb b 256)
     (cond (eqb c 1) (seen 0 (run (in-set white) (b ∷ s)))
-    (cond (eqb c 2) (seen (keyword 18 (take n (b ∷ s))) n)
-    (cond (eqb c 3) (seen 1 n)
-    (cond (within 4 0x7F c) (mark c b s) unseen))))
+    (cond (eqb c 0xFE) (seen (keyword 18 (take n (b ∷ s))) n)
+    (cond (eqb c 0xFF) (seen 1 n)
+    (cond (within 2 0x7F c) (mark c b s) unseen))))
     unseen
 
 sight-is : (s : List ℕ) → Is s (sight s)
@@ -106,13 +103,13 @@ sight-is (b ∷ s) =
     let c = classOf b in
     let n = run (in-set word) (b ∷ s) in
     either-way (Is _) (ltb b 256)
-    (λ e.
-    let g : Begun (b ∷ s) c = record { some = omega arith; small = ltb-true b 256 e; class-is = refl } in
-    either-way (Is _) (eqb c 1) (λ e. skip-is (found-white g (eqb-true c 1 e) refl))
-    (λ e. either-way (Is _) (eqb c 2) (λ e. token-is (found-name g (eqb-true c 2 e) refl (keyword-is 18 (take n (b ∷ s)) (omega arith) (λ j h k. absurd (omega arith)))))
-    (λ e. either-way (Is _) (eqb c 3) (λ e. number-is (found-numeral g (eqb-true c 3 e) refl))
-    (λ e. either-way (Is _) (within 4 0x7F c)
-    (λ e. let h = within-is 4 0x7F c (T-of e) in mark-is c b s (record { begun = g; low = h .0; high = omega arith }))
+    (λ h. either-way (Is _) (eqb c 1) (λ e. skip-is (found-white (omega arith) (white-is b c (ltb-true b 256 h) refl ∙ e)))
+    (λ d.
+    let g : Begun (b ∷ s) c = record { some = omega arith; small = ltb-true b 256 h; class-is = refl; dark = eqb-false c 1 d } in
+    either-way (Is _) (eqb c 0xFE) (λ e. token-is (found-name g (eqb-true c 0xFE e) refl (keyword-is 18 (take n (b ∷ s)) (omega arith) (λ j h k. absurd (omega arith)))))
+    (λ e. either-way (Is _) (eqb c 0xFF) (λ e. number-is (found-numeral g (eqb-true c 0xFF e) refl))
+    (λ e. either-way (Is _) (within 2 0x7F c)
+    (λ e. let h = within-is 2 0x7F c (T-of e) in mark-is c b s (record { begun = g; low = h .0; high = omega arith }))
     (λ e. is-unseen)))))
     (λ e. is-unseen)
 

@@ -10,6 +10,7 @@ use lib.Dec.{T, ltb}
 use lib.ListN.{length, take, drop, replicate}
 use borrow.Author.Tests.{lt-ltb, le-ltb}
 use Rattle.tables.specs.Tables.{Token, Node, encodeToken, encodeNode, encodeDiagnostic, tokensOf as tokensIn, cleared, laid, table, tokenTable, nodeTable, diagnosticTable}
+use Rattle.tables.specs.Suffix.{unknownNumerals}
 use Rattle.tables.proofs.Laws.{token-size, diagnostic-size, laid-zeros, table-none, table-front, cleared-all, tokens-of-table}
 use Rattle.utf8.specs.Utf8.{Utf8}
 use Rattle.lexer.specs.Lexes.{Lexes}
@@ -31,33 +32,34 @@ use Rattle.cairo_m.proofs.Demand1.{none-out}
 -- ---- what lexing alone answers
 -- its refusals are refusals of the reading
 abbrev refused? : Answer → Bool
-refused? (Answer.Accepted t) = false
+refused? (Answer.Accepted t u) = false
 refused? Answer.Long = true
 refused? Answer.Encoding = true
 refused? (Answer.Lexical d) = true
 refused? (Answer.TokenRoom t) = true
 
 abbrev after : Answer → Reading
-after (Answer.Accepted t) = Reading.Syntax
+after (Answer.Accepted t u) = Reading.Syntax
 after Answer.Long = Reading.Long
 after Answer.Encoding = Reading.Encoding
 after (Answer.Lexical d) = Reading.Lexical d
 after (Answer.TokenRoom t) = Reading.TokenRoom t
 
 -- a text that neither 1, 2, 3 nor 4 is said of, with its tokens in the table
-pub record Taken (text : List ℕ) (k n : ℕ) (a c : List ℕ) (t : ℕ) : Type 0 where
+pub record Taken (text : List ℕ) (k n : ℕ) (a c : List ℕ) (t u : ℕ) : Type 0 where
   pub ts : List Token
   pub short : length text ≤ 65535
   pub utf8 : Utf8 text
   pub lexes : Lexes 0 text ts []
   pub fit : length ts ≤ k / 16
   pub count : t ≡ length ts
+  pub unknown : u ≡ length (unknownNumerals ts)
   pub tokens : a ≡ tokenTable k ts
   pub diagnostics : c ≡ diagnosticTable n []
 
 data Joined (text : List ℕ) (k n : ℕ) (a c : List ℕ) : Answer → Type 0 where
   refused : {s : Answer} → T (refused? s) → (o : Outcome) → ((m : ℕ) → OutcomeIs text (k / 16) m o) → tokensOf o ≡ [] → nodesOf o ≡ [] → a ≡ replicate k 0 → c ≡ diagnosticTable n (diagnosticsOf o) → after s ≡ readingOf o → Joined text k n a c s
-  taken : {t : ℕ} → Taken text k n a c t → Joined text k n a c (Answer.Accepted t)
+  taken : {t u : ℕ} → Taken text k n a c t u → Joined text k n a c (Answer.Accepted t u)
 
 joined : {text : List ℕ} {k n : ℕ} {a c : List ℕ} {r : Answer} → AnswerIs text k n a c r → Joined text k n a c r
 joined {text} {k} {n} {a} {c} v =
@@ -75,7 +77,7 @@ joined {text} {k} {n} {a} {c} v =
               rw q (refused tt (token-room ts) (λ m. is-token-room h u l p) refl refl (rw q at e) (f) refl)
           | no p ↦
               let q : ltb (k / 16) (length ts) ≡ false = le-ltb (k / 16) (length ts) (omega arith) in
-              rw q (taken (record { ts = ts; short = h; utf8 = u; lexes = l; fit = omega arith; count = refl; tokens = rw q at e; diagnostics = f }))
+              rw q (taken (record { ts = ts; short = h; utf8 = u; lexes = l; fit = omega arith; count = refl; unknown = refl; tokens = rw q at e; diagnostics = f }))
         ]
 
 module _ {text : List ℕ} {k n : ℕ} {a c : List ℕ} {r : Answer} (v : AnswerIs text k n a c r) where
@@ -95,16 +97,26 @@ module _ {text : List ℕ} {k n : ℕ} {a c : List ℕ} {r : Answer} (v : Answer
           }
       go s (taken t) h = absurd h
 
-  pub takes : {t : ℕ} → r ≡ Answer.Accepted t → Taken text k n a c t
-  takes {t} e = go (subst (Joined text k n a c) e (joined v))
+  pub takes : {t u : ℕ} → r ≡ Answer.Accepted t u → Taken text k n a c t u
+  takes {t} {u} e = go (subst (Joined text k n a c) e (joined v))
     where
-      go : Joined text k n a c (Answer.Accepted t) → Taken text k n a c t
+      go : Joined text k n a c (Answer.Accepted t u) → Taken text k n a c t u
       go (refused g o i p q w x z) = absurd g
-      go (taken t) = t
+      go (taken x) = x
 
   -- the tokens fill as many bytes as the table has
-  pub in-table : {t : ℕ} → r ≡ Answer.Accepted t → length a ≡ k → t * 16 ≤ length a
+  pub in-table : {t u : ℕ} → r ≡ Answer.Accepted t u → length a ≡ k → t * 16 ≤ length a
   in-table e l = let x = takes e in omega (arith, x .count, x .fit)
+
+module _ {text : List ℕ} {k n t u : ℕ} {a c w : List ℕ} (x : Taken text k n a c t u) (e : w ≡ take (t * 16 - 0) (drop 0 a)) where
+  same-tokens : tokensIn w ≡ x .ts
+  same-tokens =
+      let ts = x .ts in
+      ap tokensIn (e ∙ rw (x .count, x .tokens, sub-zero (length ts * 16)) (table-front encodeToken 16 (omega arith) token-size k ts (x .fit)))
+      ∙ tokens-of-table ts (length ts * 16) (omega arith) (fits (x .lexes) (x .short))
+
+  pub unknown-in : u ≡ length (unknownNumerals (tokensIn w))
+  unknown-in = x .unknown ∙ ap (λ (ts : List Token). length (unknownNumerals ts)) (sym same-tokens)
 
 -- ---- what the tokens come to
 unlike : (n : ℕ) → suc n ≡ 0 → ⊥
@@ -121,15 +133,9 @@ ended (is-suffix d t) = nothing (unlike 7)
 ended (is-node-room d t h) = nothing (unlike 5)
 ended (is-accepted d t h) = whole t
 
-module _ {text : List ℕ} {k m n t : ℕ} {a b w C c : List ℕ} {r : Reading} (x : Taken text k n a C t) (v : TokensRead text w m b C c r) (e : w ≡ take (t * 16 - 0) (drop 0 a)) where
-  same-tokens : tokensIn w ≡ x .ts
-  same-tokens =
-      let ts = x .ts in
-      ap tokensIn (e ∙ rw (x .count, x .tokens, sub-zero (length ts * 16)) (table-front encodeToken 16 (omega arith) token-size k ts (x .fit)))
-      ∙ tokens-of-table ts (length ts * 16) (omega arith) (fits (x .lexes) (x .short))
-
+module _ {text : List ℕ} {k m n t u : ℕ} {a b w C c : List ℕ} {r : Reading} (x : Taken text k n a C t u) (v : TokensRead text w m b C c r) (e : w ≡ take (t * 16 - 0) (drop 0 a)) where
   is : TokensAre text (m / 16) (x .ts) (v .outcome)
-  is = subst (λ (ts : List Token). TokensAre text (m / 16) ts (v .outcome)) same-tokens (v .is)
+  is = subst (λ (ts : List Token). TokensAre text (m / 16) ts (v .outcome)) (same-tokens x e) (v .is)
 
   nodes : (o : Outcome) → Ended text (x .ts) o → table 16 entryOf m (nodesOf o) ≡ nodeTable m (nodesOf o)
   nodes o (whole t) = uncapped (ordered (x .lexes)) (x .short) (values (x .lexes)) t m

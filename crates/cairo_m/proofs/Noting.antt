@@ -11,7 +11,7 @@ use lib.Seq.{take-all}
 use borrow.Author.Tests.{eq-eqb, ne-eqb}
 use Rattle.tables.specs.Tables.{Token, encodeDiagnostic, tokensOf, tokenAt, laid, stored}
 use Rattle.tables.proofs.Laws.{diagnostic-size, laid-none, laid-more, laid-length, tokens-at, tokens-length}
-use Rattle.grammar.specs.Suffix.{unknownSuffix, keep, unknownNumerals}
+use Rattle.tables.specs.Suffix.{unknownSuffix, keep, unknownNumerals}
 use Rattle.grammar.proofs.Suffix.{one-later}
 use Rattle.cairo_m.specs.Reading.{suffixError}
 use Rattle.cairo_m.specs.Suffixes.{Noted, passed, noted, Unknown}

@@ -5,7 +5,7 @@ use mathlib.Core.List.{List, map}
 use Prim.Native.Nat.{ℕ, _+_, _/_}
 use lib.ListN.{length}
 use Rattle.tables.specs.Tables.{encodeDiagnostic, tokensOf as tokensIn, tokenAt, table, laid, stored}
-use Rattle.grammar.specs.Suffix.{unknownSuffix, unknownNumerals}
+use Rattle.tables.specs.Suffix.{unknownSuffix, unknownNumerals}
 use Rattle.parser.specs.Parse.{entryOf}
 use Rattle.cairo_m.specs.declared.Reading.{Reading}
 use Rattle.cairo_m.specs.Reading.{Outcome, TokensAre, readingOf, nodesOf, diagnosticsOf, suffixError}

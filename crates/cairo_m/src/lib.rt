@@ -36,9 +36,12 @@ pub fn read(text: &[u8], tokens: &mut [u8], nodes: &mut [u8], diagnostics: &mut 
 {
     let lexed = lex_alone(text, tokens, diagnostics);
     match lexed {
-        Answer::Accepted(t) => {
+        Answer::Accepted {
+            tokens: t,
+            unknown: u,
+        } => {
             let end = t * 16;
-            let r = read_tokens(text, &tokens[0..end], nodes, diagnostics);
+            let r = read_tokens(text, &tokens[0..end], u, nodes, diagnostics);
             if outcome_of(r) == 0 {
                 return r;
             }

@@ -7,8 +7,11 @@ use tables::diagnostic::put_diagnostic;
 use tables::node;
 use tables::token;
 use tables::token_type::LITERAL_NUMBER;
+ghost use mathlib.Core.Path.{_≡_};
 ghost use Prim.Native.Nat.{_≤_, _<_, _/_};
 ghost use lib.ListN.{length};
+ghost use Rattle.tables.specs.Tables.{tokensOf as tokensIn};
+ghost use Rattle.tables.specs.Suffix.{unknownNumerals};
 ghost use Rattle.cairo_m.specs.Suffixes.{Noted, Unknown, TokensRead};
 
 const OTHER_SUFFIX: u8 = 3;
@@ -51,8 +54,15 @@ fn unknown_suffixes(tokens: &[u8], diagnostics: &mut [u8]) -> usize
     count
 }
 
-// Reads the tokens of a text, which are all that the table has, into the node table.
-pub fn read_tokens(text: &[u8], tokens: &[u8], nodes: &mut [u8], diagnostics: &mut [u8]) -> Reading
+// Reads the tokens of a text, which are all that the table has, into the node table. So many are numerals with an unknown suffix: they are looked for if there are any.
+pub(crate) fn read_tokens(
+    text: &[u8],
+    tokens: &[u8],
+    unknown: usize,
+    nodes: &mut [u8],
+    diagnostics: &mut [u8],
+) -> Reading
+    requires { ⌜ unknown ≡ length (unknownNumerals (tokensIn (now tokens))) ⌝ }
     ensures { λ r. ⌜ TokensRead (now (text .entry)) (now (tokens .entry)) (length (now (nodes .entry))) (now (nodes .exit)) (now (diagnostics .entry)) (now (diagnostics .exit)) r ⌝ }
 {
     let parsed = parse(text, tokens, nodes);
@@ -60,10 +70,9 @@ pub fn read_tokens(text: &[u8], tokens: &[u8], nodes: &mut [u8], diagnostics: &m
         Parsed::Deep => Reading::Nest,
         Parsed::Syntax => Reading::Syntax,
         Parsed::Tree(count) => {
-            let unknown = unknown_suffixes(tokens, diagnostics);
             if unknown > 0 {
                 clear_from(nodes, 0);
-                return Reading::Suffix(unknown);
+                return Reading::Suffix(unknown_suffixes(tokens, diagnostics));
             }
             if count > node::room(nodes) {
                 clear_from(nodes, 0);

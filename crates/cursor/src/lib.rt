@@ -253,7 +253,16 @@ impl Cursor {
         if self.status != READING {
             return self;
         }
-        put_node(nodes, self.count, kind, 0, start, end, self.parts, self.mark);
+        put_node(
+            nodes,
+            self.count,
+            kind,
+            0,
+            start,
+            end,
+            self.parts,
+            self.mark,
+        );
         self.count = next(self.count);
         self.parts = 1;
         self.mark = 0;

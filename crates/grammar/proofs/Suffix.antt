@@ -11,7 +11,7 @@ use borrow.Author.Tests.{eqb-true}
 use Rattle.grammar.specs.Derive.{Token, Node, Input, token, R, Act, skip, leaf, named, literal, count, index, mark, Step, take, close, tick, alone, done}
 use Rattle.grammar.specs.Derive.{S, next, act, yields}
 use Rattle.grammar.specs.Grammar.{body, Tree}
-use Rattle.grammar.specs.Suffix.{unknownSuffix, keep, unknownNumerals}
+use Rattle.tables.specs.Suffix.{unknownSuffix, keep, unknownNumerals}
 use Rattle.grammar.proofs.Bodies.{every}
 use Rattle.grammar.proofs.On.{On, on, on-if}
 use Rattle.grammar.proofs.Keeps.{passes, tree-keeps}

@@ -24,7 +24,7 @@ pub step-some : {s : List ℕ} {n : ℕ} {i : Item} → Step s n i → (1 ≤ n)
 step-some {s} {n} (matched k b e) = (omega (arith, spells-some k (take n s) (b .spells), length-take n s), b .within)
 step-some (strange c t b e) = begins-some b
 
-step-one : {s : List ℕ} {n n′ : ℕ} {i i′ : Item} → Step s n i → Step s n′ i′ → (n ≡ n′) × (i ≡ i′)
+pub step-one : {s : List ℕ} {n n′ : ℕ} {i i′ : Item} → Step s n i → Step s n′ i′ → (n ≡ n′) × (i ≡ i′)
 step-one {s} (matched k b e) (matched k′ b′ e′) =
     let h = best-one b b′ in
     (h .0, e ∙ ap₂ itemOf (h .1) (ap (λ (m : ℕ). numeralOf (take m s)) (h .0)) ∙ sym e′)

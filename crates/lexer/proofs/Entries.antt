@@ -1,11 +1,12 @@
 -- Lexing alone, from what `lex` answers. Assumes nothing.
-use mathlib.Core.Path.{_≡_, refl, sym, ap, subst, _∙_}
+use mathlib.Core.Path.{_≡_, refl, sym, ap, ap₂, subst, _∙_}
 use mathlib.Core.List.{List, [], _∷_}
 use Prim.Native.Nat.{ℕ, _/_, _≤_, _<_}
 use native.Mathlib.Omega.{arith}
 use lib.ListN.{length}
 use borrow.Author.Tests.{lt-ltb, le-ltb}
 use Rattle.tables.specs.Tables.{Token, Diagnostic, cleared}
+use Rattle.tables.specs.Suffix.{unknownNumerals}
 use Rattle.tables.proofs.Laws.{cleared-all}
 use Rattle.lexer.specs.Answers.{Result, long, encoding, lexed, ResultIs, lexedOf, tokensOf, diagnosticsOf, LexedIs, answerOf, AnswerIs, outcomeOf, tokenCountOf, diagnosticCountOf, EntryIs, zeros}
 use Rattle.lexer.specs.declared.lexing.Lexed.{Lexed}
@@ -24,17 +25,18 @@ is-encoding long e = absurd (let z : _≡_ {A = ℕ} 0 1 = cc in omega arith)
 is-encoding encoding e = refl
 is-encoding (lexed ts ds) e = absurd (let z : _≡_ {A = ℕ} 0 1 = cc in omega arith)
 
-record Done (t d : ℕ) (x : Result) : Type 0 where
+record Done (t u d : ℕ) (x : Result) : Type 0 where
   ts : List Token
   ds : List Diagnostic
   t-is : t ≡ length ts
+  u-is : u ≡ length (unknownNumerals ts)
   d-is : d ≡ length ds
   x-is : x ≡ lexed ts ds
 
-is-done : (t d : ℕ) (x : Result) → Lexed.Done t d ≡ lexedOf x → Done t d x
-is-done t d long e = absurd (let z : _≡_ {A = ℕ} 0 1 = cc in omega arith)
-is-done t d encoding e = absurd (let z : _≡_ {A = ℕ} 0 1 = cc in omega arith)
-is-done t d (lexed ts ds) e = record { ts = ts; ds = ds; t-is = cc; d-is = cc; x-is = refl }
+is-done : (t u d : ℕ) (x : Result) → Lexed.Done t u d ≡ lexedOf x → Done t u d x
+is-done t u d long e = absurd (let z : _≡_ {A = ℕ} 0 1 = cc in omega arith)
+is-done t u d encoding e = absurd (let z : _≡_ {A = ℕ} 0 1 = cc in omega arith)
+is-done t u d (lexed ts ds) e = record { ts = ts; ds = ds; t-is = cc; u-is = cc; d-is = cc; x-is = refl }
 
 -- the outcome by the counts
 lexical-of : (n : ℕ) (ts : List Token) (ds : List Diagnostic) → 0 < length ds → Answer.Lexical (length ds) ≡ answerOf n (lexed ts ds)
@@ -45,7 +47,7 @@ room-of : (n : ℕ) (ts : List Token) (ds : List Diagnostic) → length ds ≤ 0
 room-of n ts [] h k = rw (lt-ltb (n / 16) (length ts) k)
 room-of n ts (d ∷ ds) h k = absurd (omega arith)
 
-accepted-of : (n : ℕ) (ts : List Token) (ds : List Diagnostic) → length ds ≤ 0 → length ts ≤ n / 16 → Answer.Accepted (length ts) ≡ answerOf n (lexed ts ds)
+accepted-of : (n : ℕ) (ts : List Token) (ds : List Diagnostic) → length ds ≤ 0 → length ts ≤ n / 16 → Answer.Accepted (length ts) (length (unknownNumerals ts)) ≡ answerOf n (lexed ts ds)
 accepted-of n ts [] h k = rw (le-ltb (n / 16) (length ts) k)
 accepted-of n ts (d ∷ ds) h k = absurd (omega arith)
 
@@ -60,9 +62,9 @@ module _ {text : List ℕ} {n m : ℕ} {a b : List ℕ} {r : Lexed} (w : LexedIs
       let q = is-encoding (w .result) (sym e ∙ w .answer) in
       record { result = encoding; is = subst (ResultIs text) q (w .is); answer = refl; tokens = w .tokens ∙ ap (tokensOf n) q; diagnostics = w .diagnostics ∙ ap (diagnosticsOf m) q }
 
-  module _ {t d : ℕ} (e : r ≡ Lexed.Done t d) where
-    v : Done t d (w .result)
-    v = is-done t d (w .result) (sym e ∙ w .answer)
+  module _ {t u d : ℕ} (e : r ≡ Lexed.Done t u d) where
+    v : Done t u d (w .result)
+    v = is-done t u d (w .result) (sym e ∙ w .answer)
 
     pub alone-lexical : {a′ : List ℕ} → 0 < d → a′ ≡ cleared 0 a → length a ≡ n → AnswerIs text n m a′ b (Answer.Lexical d)
     alone-lexical h p l =
@@ -85,13 +87,13 @@ module _ {text : List ℕ} {n m : ℕ} {a b : List ℕ} {r : Lexed} (w : LexedIs
           diagnostics = w .diagnostics;
         }
 
-    pub alone-accepted : {r : ℕ} → d ≤ 0 → r ≡ length a / 16 → t ≤ r → length a ≡ n → AnswerIs text n m a b (Answer.Accepted t)
+    pub alone-accepted : {r : ℕ} → d ≤ 0 → r ≡ length a / 16 → t ≤ r → length a ≡ n → AnswerIs text n m a b (Answer.Accepted t u)
     alone-accepted h q k l =
         let f : length (v .ts) ≤ n / 16 = subst (λ (i : ℕ). i ≤ n / 16) (v .t-is) (rw (q, l) at k) in
         record {
           result = w .result;
           is = w .is;
-          answer = ap Answer.Accepted (v .t-is) ∙ accepted-of n (v .ts) (v .ds) (omega (arith, v .d-is)) f ∙ ap (answerOf n) (sym (v .x-is));
+          answer = ap₂ Answer.Accepted (v .t-is) (v .u-is) ∙ accepted-of n (v .ts) (v .ds) (omega (arith, v .d-is)) f ∙ ap (answerOf n) (sym (v .x-is));
           tokens = w .tokens;
           diagnostics = w .diagnostics;
         }

@@ -1,17 +1,22 @@
 -- One step through a text, and how far the way has come: the loop's invariant and its turns. Assumes nothing.
 use mathlib.Core.Path.{_≡_, refl, sym, ap, ap₂, subst, _∙_}
+use mathlib.Core.Bool.{Bool, true, false, cond, _&&_}
 use mathlib.Core.List.{List, [], _∷_, _++_, append-assoc, append-nil}
 use Prim.Native.Nat.{ℕ, zero, suc, _+_, _≤_, _<_, zero-le}
-use native.Mathlib.Nat.{add-zero}
+use native.Mathlib.Numerals.{add-one}
 use native.Mathlib.Omega.{arith}
-use lib.Dec.{lit<}
-use lib.ListN.{length, take, drop, length-append, length-drop, drop-of-length-le}
-use lib.Seq.{drop-drop}
+use lib.Dec.{lit<, eqb}
+use lib.ListN.{length, take, drop, getD, length-append, length-drop, drop-of-length-le}
+use lib.Seq.{drop-drop, drop-cons}
 use Rattle.tables.specs.Tables.{Token, Diagnostic, encodeToken, encodeDiagnostic, laid, stored, kept, cleared}
 use Rattle.tables.proofs.Laws.{laid-length, laid-none, laid-more, laid-kept, token-size, diagnostic-size, cleared-all}
+use Rattle.tables.specs.TokenKinds.{NUMBER}
+use Rattle.tables.specs.Suffix.{unknownNumerals}
+use Rattle.tables.proofs.Suffix.{one-more}
 use Rattle.patterns.specs.Bytes.{in-set, white, run}
+use Rattle.patterns.proofs.Runs.{run-within}
 use Rattle.utf8.specs.Utf8.{Rest}
-use Rattle.utf8.proofs.Laws.{rest-none, rest-char, rest-more, rest-end}
+use Rattle.utf8.proofs.Laws.{rest-none, rest-char, rest-more, rest-end, next-ascii}
 use Rattle.numeral.specs.Numeral.{numeralOf}
 use Rattle.numeral.specs.declared.NumberLiteral.{NumberLiteral}
 use Rattle.numeral.specs.declared.NumberLiteral.the-variants as NumberLiteral
@@ -23,8 +28,9 @@ use Rattle.lexer.specs.declared.scan.Found.the-variants as Found
 use Rattle.lexer.specs.declared.lexing.Item as declared
 use Rattle.lexer.specs.declared.lexing.Item.the-variants as Item
 use Rattle.lexer.specs.declared.lexing.Lexed.the-variants as Lexed
-use Rattle.lexer.proofs.Determined.{step-some}
-use Rattle.lexer.proofs.Scans.{white-found}
+use Rattle.lexer.proofs.Leads.{best-white}
+use Rattle.lexer.proofs.Determined.{step-some, step-one}
+use Rattle.lexer.proofs.Scans.{run-first, white-ascii}
 
 -- ---- one step
 module _ {s : List ℕ} {f : Found} (i : Scanned s f) where
@@ -34,7 +40,7 @@ module _ {s : List ℕ} {f : Found} (i : Scanned s f) where
       go : {n : ℕ} → Scanned s (Found.Skip n) → Stepped s (Item.Skipped n)
       go (Scanned.skip b r) = Stepped.skipped (matched 0 b refl) r
 
-  pub token-step : {k n : ℕ} → f ≡ Found.Token k n → Stepped s (Item.Token n k 0 0 0)
+  pub token-step : {k n : ℕ} → f ≡ Found.Token k n → Stepped s (Item.Token n k)
   token-step e = go (subst (Scanned s) e i)
     where
       plain : (k : ℕ) (a : NumberLiteral) → 2 ≤ k → token k 0 0 0 ≡ itemOf k a
@@ -42,7 +48,7 @@ module _ {s : List ℕ} {f : Found} (i : Scanned s f) where
       plain (suc zero) a h = absurd (omega arith)
       plain (suc (suc k)) a h = refl
 
-      go : {k n : ℕ} → Scanned s (Found.Token k n) → Stepped s (Item.Token n k 0 0 0)
+      go : {k n : ℕ} → Scanned s (Found.Token k n) → Stepped s (Item.Token n k)
       go {k} {n} (Scanned.token h b r) = Stepped.token (matched k b (plain k (numeralOf (take n s)) h)) r
 
   pub strange-step : {n : ℕ} → f ≡ Found.Strange n → Stepped s (Item.Error n 1)
@@ -70,8 +76,8 @@ module _ {s : List ℕ} {f : Found} (i : Scanned s f) where
         go : Scanned s (Found.Number n) → (Step s n j × Rest s n)
         go (Scanned.number b r) = (matched 1 b (sym h ∙ ap (itemOf 1) q), r)
 
-    pub literal-step : {a : NumberLiteral} {v x y : ℕ} → a ≡ numeralOf (take n s) → a ≡ NumberLiteral.Number v x y → Stepped s (Item.Token n 1 x y v)
-    literal-step {a} {v} {x} {y} q h = let r = number-step (token 1 x y v) q (ap (itemOf 1) h) in Stepped.token (r .0) (r .1)
+    pub literal-step : {a : NumberLiteral} {v x y : ℕ} → a ≡ numeralOf (take n s) → a ≡ NumberLiteral.Number v x y → Stepped s (Item.Literal n v x y)
+    literal-step {a} {v} {x} {y} q h = let r = number-step (token NUMBER x y v) q (ap (itemOf 1) h) in Stepped.literal (r .0) (r .1)
 
     pub overflow-step : {a : NumberLiteral} → a ≡ numeralOf (take n s) → a ≡ NumberLiteral.Overflow → Stepped s (Item.Error n 2)
     overflow-step q h = let r = number-step (error 2) q (ap (itemOf 1) h) in Stepped.error (r .0) (r .1)
@@ -79,16 +85,42 @@ module _ {s : List ℕ} {f : Found} (i : Scanned s f) where
     pub format-step : {a : NumberLiteral} → a ≡ numeralOf (take n s) → a ≡ NumberLiteral.InvalidFormat → Stepped s (Item.Error n 3)
     format-step q h = let r = number-step (error 3) q (ap (itemOf 1) h) in Stepped.error (r .0) (r .1)
 
--- ---- the way so far: at the place `at` of the text, nt tokens and nd errors are put down in tables that were a₀ and b₀
-pub record Going (text a₀ b₀ a b : List ℕ) (at nt nd : ℕ) : Type 0 where
+-- ---- white space, byte by byte: a way from the byte after one is a way from that byte, since the longest run is one step
+white-step : (s : List ℕ) → 1 ≤ length s → in-set white (getD s 0 0) ≡ true → Step s (run (in-set white) s) skipped
+white-step s h w = matched 0 (best-white s h w) refl
+
+past-white : {e : ℕ} {s : List ℕ} {us : List Token} {gs : List Diagnostic} (r : ℕ) → r ≡ run (in-set white) s → 1 ≤ r → Lexes e s us gs → Lexes (e + r) (drop r s) us gs
+past-white r q h done = absurd (omega (arith, run-within (in-set white) []))
+past-white {e} {s} r q h (step {ts = ts} {ds = ds} n i st l) =
+    let f = run-first (in-set white) s (omega arith) in
+    let u = step-one st (white-step s (f .0) (f .1)) in
+    subst (λ (j : Item). Lexes (e + r) (drop r s) (tokens j e (e + n) ts) (errors j e (e + n) ds)) (sym (u .1))
+    (subst (λ (k : ℕ). Lexes (e + k) (drop k s) ts ds) (u .0 ∙ sym q) l)
+
+white-on : {at b : ℕ} {s : List ℕ} {us : List Token} {gs : List Diagnostic} → in-set white b ≡ true → Lexes (at + 1) s us gs → Lexes at (b ∷ s) us gs
+unfolding run
+white-on {at} {b} {s} {us} {gs} w l =
+    let e : run (in-set white) (b ∷ s) ≡ suc (run (in-set white) s) = rw w in
+    step (suc (run (in-set white) s)) skipped (subst (λ (n : ℕ). Step (b ∷ s) n skipped) e (white-step (b ∷ s) (omega arith) w)) (go (run (in-set white) s) refl)
+  where
+    go : (r : ℕ) → r ≡ run (in-set white) s → Lexes (at + suc r) (drop (suc r) (b ∷ s)) us gs
+    go zero q = l
+    go (suc r) q =
+        let e : (at + 1) + suc r ≡ at + suc (suc r) = omega arith in
+        subst (λ (k : ℕ). Lexes k (drop (suc r) s) us gs) e (past-white (suc r) q (omega arith) l)
+
+-- ---- the way so far: at the place `at` of the text, nt tokens, of which nu have an unknown suffix, and nd errors are put down in tables that were a₀ and b₀
+pub record Going (text a₀ b₀ a b : List ℕ) (at nt nu nd : ℕ) : Type 0 where
   pub short : length text ≤ 65535
   pub inside : at ≤ length text
   pub rest : Rest text at
   pub few-tokens : nt ≤ at
+  pub few-unknown : nu ≤ at
   pub few-errors : nd ≤ at
   pub ts : List Token
   pub ds : List Diagnostic
   pub token-count : nt ≡ length ts
+  pub unknown-count : nu ≡ length (unknownNumerals ts)
   pub error-count : nd ≡ length ds
   pub token-table : a ≡ laid 16 encodeToken a₀ ts
   pub error-table : b ≡ laid 8 encodeDiagnostic b₀ ds
@@ -97,7 +129,8 @@ pub record Going (text a₀ b₀ a b : List ℕ) (at nt nd : ℕ) : Type 0 where
 -- how far an item reaches
 abbrev pub Turned : List ℕ → ℕ → declared.Item → Type 0
 Turned text at (Item.Skipped n) = (1 ≤ n) × (at + n ≤ length text)
-Turned text at (Item.Token n k x y v) = (1 ≤ n) × (at + n ≤ length text)
+Turned text at (Item.Token n k) = (1 ≤ n) × (at + n ≤ length text)
+Turned text at (Item.Literal n v x y) = (1 ≤ n) × (at + n ≤ length text)
 Turned text at (Item.Error n r) = (1 ≤ n) × (at + n ≤ length text)
 Turned text at Item.NotUtf8 = Unit {0}
 
@@ -108,25 +141,31 @@ more-tokens = laid-more encodeToken 16 (lit< tt) token-size
 more-errors : (b₀ : List ℕ) (ds : List Diagnostic) (d : Diagnostic) → stored 8 (laid 8 encodeDiagnostic b₀ ds) (length ds) (encodeDiagnostic d) ≡ laid 8 encodeDiagnostic b₀ (ds ++ (d ∷ []))
 more-errors = laid-more encodeDiagnostic 8 (lit< tt) diagnostic-size
 
+one-most : (c : Bool) → cond c 1 0 ≤ 1
+one-most true = omega arith
+one-most false = zero-le
+
 module _ {text a₀ b₀ : List ℕ} where
-  pub going-none : length text ≤ 65535 → Going text a₀ b₀ a₀ b₀ 0 0 0
+  pub going-none : length text ≤ 65535 → Going text a₀ b₀ a₀ b₀ 0 0 0 0
   going-none h =
       record {
         short = h;
         inside = zero-le;
         rest = rest-none;
         few-tokens = zero-le;
+        few-unknown = zero-le;
         few-errors = zero-le;
         ts = [];
         ds = [];
         token-count = refl;
+        unknown-count = refl;
         error-count = refl;
         token-table = sym (laid-none encodeToken 16 (lit< tt) token-size a₀);
         error-table = sym (laid-none encodeDiagnostic 8 (lit< tt) diagnostic-size b₀);
         goes-on = λ us gs l. l;
       }
 
-  module _ {a b : List ℕ} {at nt nd : ℕ} (g : Going text a₀ b₀ a b at nt nd) where
+  module _ {a b : List ℕ} {at nt nu nd : ℕ} (g : Going text a₀ b₀ a b at nt nu nd) where
     pub token-length : length a ≡ length a₀
     token-length = ap length (g .token-table) ∙ laid-length encodeToken 16 (lit< tt) token-size a₀ (g .ts)
 
@@ -136,6 +175,7 @@ module _ {text a₀ b₀ : List ℕ} where
     -- a turn goes past some bytes, and not past the end
     pub stepped-turn : {s : List ℕ} {i : declared.Item} → Stepped s i → s ≡ drop at text → Turned text at i
     stepped-turn (Stepped.skipped st r) e = omega (arith, step-some st, ap length e, length-drop at text, g .inside)
+    stepped-turn (Stepped.literal st r) e = omega (arith, step-some st, ap length e, length-drop at text, g .inside)
     stepped-turn (Stepped.token st r) e = omega (arith, step-some st, ap length e, length-drop at text, g .inside)
     stepped-turn (Stepped.error st r) e = omega (arith, step-some st, ap length e, length-drop at text, g .inside)
     stepped-turn (Stepped.broken u) e = tt
@@ -144,64 +184,97 @@ module _ {text a₀ b₀ : List ℕ} where
         → Lexes at (drop at text) (tokens i at (at + n) us) (errors i at (at + n) gs)
     lexes-on {n} {i} st e us gs l = step n i (rw e at st) (subst (λ (s : List ℕ). Lexes (at + n) s us gs) (sym (drop-drop n at text)) l)
 
-    pub going-skipped : {s : List ℕ} {i : declared.Item} {n : ℕ} → Stepped s i → s ≡ drop at text → i ≡ Item.Skipped n → Going text a₀ b₀ a b (at + n) nt nd
+    pub going-skipped : {s : List ℕ} {i : declared.Item} {n : ℕ} → Stepped s i → s ≡ drop at text → i ≡ Item.Skipped n → Going text a₀ b₀ a b (at + n) nt nu nd
     going-skipped {s} {i} {n} w e q = go (subst (Stepped s) q w)
       where
-        go : Stepped s (Item.Skipped n) → Going text a₀ b₀ a b (at + n) nt nd
+        go : Stepped s (Item.Skipped n) → Going text a₀ b₀ a b (at + n) nt nu nd
         go (Stepped.skipped st r) =
             record {
               short = g .short;
               inside = stepped-turn (Stepped.skipped st r) e .1;
               rest = rest-more (g .rest) (rw e at r);
               few-tokens = omega (arith, g .few-tokens);
+              few-unknown = omega (arith, g .few-unknown);
               few-errors = omega (arith, g .few-errors);
               ts = g .ts;
               ds = g .ds;
               token-count = g .token-count;
+              unknown-count = g .unknown-count;
               error-count = g .error-count;
               token-table = g .token-table;
               error-table = g .error-table;
               goes-on = λ us gs l. g .goes-on us gs (lexes-on st e us gs l);
             }
 
-    pub going-white : {s : List ℕ} {n : ℕ} → n ≡ run (in-set white) s → s ≡ drop at text → Going text a₀ b₀ a b (at + n) nt nd
-    going-white {n = zero} e q = subst (λ (m : ℕ). Going text a₀ b₀ a b m nt nd) (sym (add-zero at)) g
-    going-white {n = suc n} e q = going-skipped (skip-step (white-found e (omega arith)) refl) q refl
+    pub going-white : at < length text → in-set white (getD text at 0) ≡ true → Going text a₀ b₀ a b (at + 1) nt nu nd
+    going-white h w =
+        record {
+          short = g .short;
+          inside = omega arith;
+          rest = next-ascii (g .rest) h (white-ascii _ w);
+          few-tokens = omega (arith, g .few-tokens);
+          few-unknown = omega (arith, g .few-unknown);
+          few-errors = omega (arith, g .few-errors);
+          ts = g .ts;
+          ds = g .ds;
+          token-count = g .token-count;
+          unknown-count = g .unknown-count;
+          error-count = g .error-count;
+          token-table = g .token-table;
+          error-table = g .error-table;
+          goes-on = λ us gs l. g .goes-on us gs (rw (drop-cons text at 0 h) (white-on w (subst (λ (k : ℕ). Lexes (at + 1) (drop k text) us gs) (add-one at) l)));
+        }
 
-    pub going-token : {s a′ : List ℕ} {i : declared.Item} {n k x y v : ℕ} → Stepped s i → s ≡ drop at text → i ≡ Item.Token n k x y v
-        → a′ ≡ stored 16 a nt (encodeToken (record { kind = k; suffix = x; start = at; end = at + n; base = y; value = v })) → Going text a₀ b₀ a′ b (at + n) (nt + 1) nd
-    going-token {s} {a′} {i} {n} {k} {x} {y} {v} w e q f = go (subst (Stepped s) q w)
+    -- any token
+    going-more : {s a′ : List ℕ} {n k x y v mu : ℕ} → Step s n (token k x y v) → Rest s n → s ≡ drop at text → mu ≡ nu + cond (eqb k 1 && eqb x 3) 1 0
+        → a′ ≡ stored 16 a nt (encodeToken (record { kind = k; suffix = x; start = at; end = at + n; base = y; value = v })) → Going text a₀ b₀ a′ b (at + n) (nt + 1) mu nd
+    going-more {n = n} {k} {x} {y} {v} st r e u f =
+        let t : Token = record { kind = k; suffix = x; start = at; end = at + n; base = y; value = v } in
+        let h = step-some st in
+        record {
+          short = g .short;
+          inside = omega (arith, h, ap length e, length-drop at text, g .inside);
+          rest = rest-more (g .rest) (rw e at r);
+          few-tokens = omega (arith, h, g .few-tokens);
+          few-unknown = omega (arith, h, g .few-unknown, one-most (eqb k 1 && eqb x 3));
+          few-errors = omega (arith, g .few-errors);
+          ts = g .ts ++ (t ∷ []);
+          ds = g .ds;
+          token-count = omega (arith, g .token-count, length-append (g .ts) (t ∷ []));
+          unknown-count = omega (arith, u, g .unknown-count, one-more (g .ts) t);
+          error-count = g .error-count;
+          token-table = f ∙ ap₂ (λ (l : List ℕ) (j : ℕ). stored 16 l j (encodeToken t)) (g .token-table) (g .token-count) ∙ more-tokens a₀ (g .ts) t;
+          error-table = g .error-table;
+          goes-on = λ us gs l.
+              subst (λ (q : List Token). Lexes 0 text q (g .ds ++ gs)) (sym (append-assoc (g .ts) (t ∷ []) us)) (g .goes-on (t ∷ us) gs (lexes-on st e us gs l));
+        }
+
+    pub going-token : {s a′ : List ℕ} {i : declared.Item} {n k : ℕ} → Stepped s i → s ≡ drop at text → i ≡ Item.Token n k
+        → a′ ≡ stored 16 a nt (encodeToken (record { kind = k; suffix = 0; start = at; end = at + n; base = 0; value = 0 })) → Going text a₀ b₀ a′ b (at + n) (nt + 1) nu nd
+    going-token {s} {a′} {i} {n} {k} w e q f = go (subst (Stepped s) q w)
       where
-        t : Token
-        t = record { kind = k; suffix = x; start = at; end = at + n; base = y; value = v }
+        none : (c : Bool) → nu ≡ nu + cond (c && false) 1 0
+        none true = omega arith
+        none false = omega arith
 
-        go : Stepped s (Item.Token n k x y v) → Going text a₀ b₀ a′ b (at + n) (nt + 1) nd
-        go (Stepped.token st r) =
-            let h = stepped-turn (Stepped.token st r) e in
-            record {
-              short = g .short;
-              inside = h .1;
-              rest = rest-more (g .rest) (rw e at r);
-              few-tokens = omega (arith, h .0, g .few-tokens);
-              few-errors = omega (arith, g .few-errors);
-              ts = g .ts ++ (t ∷ []);
-              ds = g .ds;
-              token-count = omega (arith, g .token-count, length-append (g .ts) (t ∷ []));
-              error-count = g .error-count;
-              token-table = f ∙ ap₂ (λ (l : List ℕ) (j : ℕ). stored 16 l j (encodeToken t)) (g .token-table) (g .token-count) ∙ more-tokens a₀ (g .ts) t;
-              error-table = g .error-table;
-              goes-on = λ us gs l.
-                  subst (λ (q : List Token). Lexes 0 text q (g .ds ++ gs)) (sym (append-assoc (g .ts) (t ∷ []) us)) (g .goes-on (t ∷ us) gs (lexes-on st e us gs l));
-            }
+        go : Stepped s (Item.Token n k) → Going text a₀ b₀ a′ b (at + n) (nt + 1) nu nd
+        go (Stepped.token st r) = going-more st r e (none (eqb k 1)) f
+
+    pub going-literal : {s a′ : List ℕ} {i : declared.Item} {n v x y o : ℕ} → Stepped s i → s ≡ drop at text → i ≡ Item.Literal n v x y → o ≡ cond (eqb x 3) 1 0
+        → a′ ≡ stored 16 a nt (encodeToken (record { kind = 1; suffix = x; start = at; end = at + n; base = y; value = v })) → Going text a₀ b₀ a′ b (at + n) (nt + 1) (nu + o) nd
+    going-literal {s} {a′} {i} {n} {v} {x} {y} {o} w e q u f = go (subst (Stepped s) q w)
+      where
+        go : Stepped s (Item.Literal n v x y) → Going text a₀ b₀ a′ b (at + n) (nt + 1) (nu + o) nd
+        go (Stepped.literal st r) = going-more st r e (ap (nu +_) u) f
 
     pub going-error : {s b′ : List ℕ} {i : declared.Item} {n r : ℕ} → Stepped s i → s ≡ drop at text → i ≡ Item.Error n r
-        → b′ ≡ stored 8 b nd (encodeDiagnostic (record { start = at; end = at + n; reason = r })) → Going text a₀ b₀ a b′ (at + n) nt (nd + 1)
+        → b′ ≡ stored 8 b nd (encodeDiagnostic (record { start = at; end = at + n; reason = r })) → Going text a₀ b₀ a b′ (at + n) nt nu (nd + 1)
     going-error {s} {b′} {i} {n} {r} w e q f = go (subst (Stepped s) q w)
       where
         d : Diagnostic
         d = record { start = at; end = at + n; reason = r }
 
-        go : Stepped s (Item.Error n r) → Going text a₀ b₀ a b′ (at + n) nt (nd + 1)
+        go : Stepped s (Item.Error n r) → Going text a₀ b₀ a b′ (at + n) nt nu (nd + 1)
         go (Stepped.error st u) =
             let h = stepped-turn (Stepped.error st u) e in
             record {
@@ -209,10 +282,12 @@ module _ {text a₀ b₀ : List ℕ} where
               inside = h .1;
               rest = rest-more (g .rest) (rw e at u);
               few-tokens = omega (arith, g .few-tokens);
+              few-unknown = omega (arith, g .few-unknown);
               few-errors = omega (arith, h .0, g .few-errors);
               ts = g .ts;
               ds = g .ds ++ (d ∷ []);
               token-count = g .token-count;
+              unknown-count = g .unknown-count;
               error-count = omega (arith, g .error-count, length-append (g .ds) (d ∷ []));
               token-table = g .token-table;
               error-table = f ∙ ap₂ (λ (l : List ℕ) (j : ℕ). stored 8 l j (encodeDiagnostic d)) (g .error-table) (g .error-count) ∙ more-errors b₀ (g .ds) d;
@@ -222,13 +297,13 @@ module _ {text a₀ b₀ : List ℕ} where
 
     -- the ends
     module _ {a′ b′ : List ℕ} where
-      pub going-done : length text ≤ at → a′ ≡ kept 16 nt a → b′ ≡ kept 8 nd b → LexedIs text (length a₀) (length b₀) a′ b′ (Lexed.Done nt nd)
+      pub going-done : length text ≤ at → a′ ≡ kept 16 nt a → b′ ≡ kept 8 nd b → LexedIs text (length a₀) (length b₀) a′ b′ (Lexed.Done nt nu nd)
       going-done h p q =
           let all = g .goes-on [] [] (subst (λ (l : List ℕ). Lexes at l [] []) (sym (drop-of-length-le text h)) done) in
           record {
             result = lexed (g .ts) (g .ds);
             is = lexes (g .short) (rest-end h (g .rest)) (simp append-nil at all);
-            answer = ap₂ Lexed.Done (g .token-count) (g .error-count);
+            answer = rw (g .token-count, g .unknown-count, g .error-count);
             tokens = p ∙ ap₂ (kept 16) (g .token-count) (g .token-table) ∙ laid-kept encodeToken 16 (lit< tt) token-size a₀ (g .ts);
             diagnostics = q ∙ ap₂ (kept 8) (g .error-count) (g .error-table) ∙ laid-kept encodeDiagnostic 8 (lit< tt) diagnostic-size b₀ (g .ds);
           }

@@ -35,7 +35,7 @@ spells-some k s (fixed h e) = h
 pub data Lead (s : List ℕ) (j m c : ℕ) : Type 0 where
   is-white : c ≡ 1 → All (in-set white) (take m s) → Lead s j m c
   is-comment : c ≡ 36 → getD s 1 0 ≡ 47 → All not-newline (drop 2 (take m s)) → Lead s j m c
-  is-word : All (in-set word) (take m s) → ((c ≡ 3) × (j ≡ 1)) ⊎ ((c ≡ 2) × ((j ≡ IDENT) ⊎ ((2 ≤ j) × (j ≤ 19) × (take m s ≡ fixedOf j)))) → Lead s j m c
+  is-word : All (in-set word) (take m s) → ((c ≡ 0xFF) × (j ≡ 1)) ⊎ ((c ≡ 0xFE) × ((j ≡ IDENT) ⊎ ((2 ≤ j) × (j ≤ 19) × (take m s ≡ fixedOf j)))) → Lead s j m c
   is-mark : 21 ≤ c → c ≤ 50 → 21 ≤ j → take m s ≡ fixedOf j → m ≤ 2 → Lead s j m c
 
 -- a byte of what the first n bytes are
@@ -135,11 +135,11 @@ best-comment s h p q =
     }
 
 -- ---- a name, a keyword, a numeral: the whole run of letters, digits and `_`
-word-most : (s : List ℕ) (j m c : ℕ) → 2 ≤ c → c ≤ 3 → m ≤ length s → Lead s j m c → m ≤ run (in-set word) s
-word-most s j m c e f h (is-white q a) = absurd (omega arith)
-word-most s j m c e f h (is-comment q b a) = absurd (omega arith)
-word-most s j m c e f h (is-word a q) = run-longest (in-set word) s m h a
-word-most s j m c e f h (is-mark q b d g a) = absurd (omega arith)
+word-most : (s : List ℕ) (j m c : ℕ) → 0xFE ≤ c → m ≤ length s → Lead s j m c → m ≤ run (in-set word) s
+word-most s j m c e h (is-white q a) = absurd (omega arith)
+word-most s j m c e h (is-comment q b a) = absurd (omega arith)
+word-most s j m c e h (is-word a q) = run-longest (in-set word) s m h a
+word-most s j m c e h (is-mark q b d g a) = absurd (omega arith)
 
 pub best-numeral : (s : List ℕ) → 1 ≤ length s → in-set digit (getD s 0 0) ≡ true → Best s 1 (run (in-set word) s)
 best-numeral s h e =
@@ -147,17 +147,17 @@ best-numeral s h e =
     record {
       within = run-within (in-set word) s;
       spells = numeral refl (spelling-here s h e);
-      longest = λ j m g p. word-most s j m (classOf (getD s 0 0)) (omega arith) (omega arith) g (lead s j m g p);
+      longest = λ j m g p. word-most s j m (classOf (getD s 0 0)) (omega arith) g (lead s j m g p);
       first = λ j p. only s j (run (in-set word) s) (classOf (getD s 0 0)) k (lead s j (run (in-set word) s) (run-within (in-set word) s) p);
     }
   where
-    only : (s : List ℕ) (j m c : ℕ) → c ≡ 3 → Lead s j m c → 1 ≤ j
+    only : (s : List ℕ) (j m c : ℕ) → c ≡ 0xFF → Lead s j m c → 1 ≤ j
     only s j m c e (is-white q a) = absurd (omega arith)
     only s j m c e (is-comment q b a) = absurd (omega arith)
     only s j m c e (is-word a q) = ⊎-elim (λ u. omega (arith, u .1)) (λ u. absurd (omega (arith, u .0))) q
     only s j m c e (is-mark q b d g a) = absurd (omega arith)
 
-keyword-first : (s : List ℕ) (j k m c : ℕ) → c ≡ 2 → 1 ≤ length (take m s) → KindIs 2 19 IDENT (take m s) k → Lead s j m c → k ≤ j
+keyword-first : (s : List ℕ) (j k m c : ℕ) → c ≡ 0xFE → 1 ≤ length (take m s) → KindIs 2 19 IDENT (take m s) k → Lead s j m c → k ≤ j
 keyword-first s j k m c e h i (is-white q a) = absurd (omega arith)
 keyword-first s j k m c e h i (is-comment q b a) = absurd (omega arith)
 keyword-first s j k m c e h i (is-mark q b d g a) = absurd (omega arith)
@@ -180,7 +180,7 @@ best-name s k h e i =
     record {
       within = run-within (in-set word) s;
       spells = keyword-spells (take (run (in-set word) s) s) k l (name-here s h e) i;
-      longest = λ j m g p. word-most s j m (classOf (getD s 0 0)) (omega arith) (omega arith) g (lead s j m g p);
+      longest = λ j m g p. word-most s j m (classOf (getD s 0 0)) (omega arith) g (lead s j m g p);
       first = λ j p. keyword-first s j k (run (in-set word) s) (classOf (getD s 0 0)) c l i (lead s j (run (in-set word) s) (run-within (in-set word) s) p);
     }
 
@@ -213,12 +213,12 @@ best-mark s k n h o a b f lone t =
         ]
 
 -- ---- nothing
-nothing-leads : (s : List ℕ) (j m c : ℕ) → (c ≡ 0) ⊎ (50 < c) → Lead s j m c → ⊥
-nothing-leads s j m c e (is-white q a) = ⊎-elim (λ u. omega arith) (λ u. omega arith) e
-nothing-leads s j m c e (is-comment q b a) = ⊎-elim (λ u. omega arith) (λ u. omega arith) e
+nothing-leads : (s : List ℕ) (j m c : ℕ) → (c ≡ 0) ⊎ ((50 < c) × (c < 0xFE)) → Lead s j m c → ⊥
+nothing-leads s j m c e (is-white q a) = ⊎-elim (λ u. omega arith) (λ u. omega (arith, u .0)) e
+nothing-leads s j m c e (is-comment q b a) = ⊎-elim (λ u. omega arith) (λ u. omega (arith, u .0)) e
 nothing-leads s j m c (inl e) (is-word a q) = ⊎-elim (λ u. omega (arith, u .0)) (λ u. omega (arith, u .0)) q
-nothing-leads s j m c (inr e) (is-word a q) = ⊎-elim (λ u. omega (arith, u .0)) (λ u. omega (arith, u .0)) q
-nothing-leads s j m c e (is-mark q b d g a) = ⊎-elim (λ u. omega arith) (λ u. omega arith) e
+nothing-leads s j m c (inr e) (is-word a q) = ⊎-elim (λ u. omega (arith, e .1, u .0)) (λ u. omega (arith, e .1, u .0)) q
+nothing-leads s j m c e (is-mark q b d g a) = ⊎-elim (λ u. omega arith) (λ u. omega (arith, u .0)) e
 
-pub stuck : (s : List ℕ) → (classOf (getD s 0 0) ≡ 0) ⊎ (50 < classOf (getD s 0 0)) → Stuck s
+pub stuck : (s : List ℕ) → (classOf (getD s 0 0) ≡ 0) ⊎ ((50 < classOf (getD s 0 0)) × (classOf (getD s 0 0) < 0xFE)) → Stuck s
 stuck s e j m h p = nothing-leads s j m (classOf (getD s 0 0)) e (lead s j m h p)

@@ -22,14 +22,14 @@ use Rattle.tables.specs.TokenKinds.{IDENT}
 use Rattle.lexer.specs.Kinds.{texts, fixedOf}
 use Rattle.lexer.specs.Classes.{classOf, Table}
 use Rattle.lexer.specs.Tokens.{Best, Stuck}
-use Rattle.lexer.specs.Scans.{KindIs, kind, no-kind, not-newline, Still, Plain, LineIs, line, broken, Scanned}
+use Rattle.lexer.specs.Scans.{KindIs, kind, no-kind, Begun, not-newline, Still, Plain, LineIs, line, broken, Scanned}
 use Rattle.lexer.specs.declared.scan.Found.{Found}
 use Rattle.lexer.specs.declared.scan.Found.the-variants as Found
 use Rattle.lexer.proofs.Texts.{white-is, letter-is, digit-is, word-is, mark-is, next-is, kind-law, fixed-kind}
 use Rattle.lexer.proofs.Leads.{best-white, best-comment, best-numeral, best-name, best-mark, stuck}
 
--- ---- a run's first byte, and the byte after it
-run-first : (f : ℕ → Bool) (s : List ℕ) → 1 ≤ run f s → (0 < length s) × (f (getD s 0 0) ≡ true)
+-- ---- a run's first byte
+pub run-first : (f : ℕ → Bool) (s : List ℕ) → 1 ≤ run f s → (0 < length s) × (f (getD s 0 0) ≡ true)
 unfolding run
 run-first f [] h = absurd (omega arith)
 run-first f (b ∷ s) h = (omega arith, go (f b) refl h)
@@ -38,31 +38,13 @@ run-first f (b ∷ s) h = (omega arith, go (f b) refl h)
     go true e k = e
     go false e k = absurd (omega arith)
 
-run-next : (f : ℕ → Bool) (s : List ℕ) → run f s < length s → f (getD s (run f s) 0) ≡ false
-unfolding run
-run-next f [] h = absurd (omega arith)
-run-next f (b ∷ s) h = go (f b) refl h (λ k. run-next f s k)
-  where
-    go : (x : Bool) → f b ≡ x → cond x (suc (run f s)) 0 < suc (length s) → (run f s < length s → f (getD s (run f s) 0) ≡ false) → f (getD (b ∷ s) (cond x (suc (run f s)) 0) 0) ≡ false
-    go true e k r = r (omega arith)
-    go false e k r = e
-
 -- ---- runs of a class: the table's entry at the byte at i
 module _ {t l : List ℕ} {i : ℕ} (r : Table classOf l) (h : i < length t) (small : getD t i 0 < 256) where
-  pub white-more : Passed (in-set white) t i → getD l (getD t i 0) 0 ≡ 1 → Passed (in-set white) t (i + 1)
-  white-more p e = passed-more p h (white-is _ _ small (r .rule _ small) ∙ eq-eqb _ 1 e)
+  pub word-more : Passed (in-set word) t i → 0xFE ≤ getD l (getD t i 0) 0 → Passed (in-set word) t (i + 1)
+  word-more p a = passed-more p h (word-is _ _ small (r .rule _ small) ∙ le-leb 0xFE _ a)
 
-  pub white-stop : Passed (in-set white) t i → (getD l (getD t i 0) 0 ≡ 1 → ⊥) → i ≡ run (in-set white) t
-  white-stop p e = passed-stop p h (white-is _ _ small (r .rule _ small) ∙ ne-eqb _ 1 e)
-
-  pub word-more : Passed (in-set word) t i → 2 ≤ getD l (getD t i 0) 0 → getD l (getD t i 0) 0 ≤ 3 → Passed (in-set word) t (i + 1)
-  word-more p a b = passed-more p h (word-is _ _ small (r .rule _ small) ∙ of-T _ (within-of 2 3 _ a b))
-
-  pub word-low : Passed (in-set word) t i → getD l (getD t i 0) 0 < 2 → i ≡ run (in-set word) t
-  word-low p a = passed-stop p h (word-is _ _ small (r .rule _ small) ∙ rw (lt-leb 2 (getD l (getD t i 0) 0) a))
-
-  pub word-high : Passed (in-set word) t i → 3 < getD l (getD t i 0) 0 → i ≡ run (in-set word) t
-  word-high p a = passed-stop p h (word-is _ _ small (r .rule _ small) ∙ rw (le-leb 2 (getD l (getD t i 0) 0) (omega arith), lt-leb (getD l (getD t i 0) 0) 3 a))
+  pub word-stop : Passed (in-set word) t i → getD l (getD t i 0) 0 < 0xFE → i ≡ run (in-set word) t
+  word-stop p a = passed-stop p h (word-is _ _ small (r .rule _ small) ∙ lt-leb 0xFE _ a)
 
 -- ---- sixteen bytes at a time
 module _ {x : Bool} {b : ℕ} where
@@ -161,6 +143,15 @@ module _ {s : List ℕ} {n : ℕ} where
   strange-none h (nothing e f) z = Scanned.broken (rest-stop h rest-none f)
 
 -- ---- what is found at the start of a text, by the class of its first byte
+module _ (t : List ℕ) (i : ℕ) {l : List ℕ} (r : Table classOf l) (h : getD t i 0 < 256) where
+  pub class-white : getD l (getD t i 0) 0 ≡ 1 → in-set white (getD t i 0) ≡ true
+  class-white e = white-is _ _ h (r .rule _ h) ∙ eq-eqb _ 1 e
+
+  pub begun-at : i < length t → (getD l (getD t i 0) 0 ≡ 1 → ⊥) → {s : List ℕ} → s ≡ drop i t → Begun s (getD l (getD t i 0) 0)
+  begun-at k n e =
+      let b : getD (drop i t) 0 0 ≡ getD t i 0 = rw (getD-drop, add-zero) in
+      rw e (record { some = omega (arith, length-drop i t); small = rw b h; class-is = rw b (r .rule _ h); dark = n })
+
 abbrev ascii : ℕ → Bool
 ascii b = ltb b 0x80
 
@@ -181,6 +172,10 @@ white-rest : (s : List ℕ) → Rest s (run (in-set white) s)
 unfolding white
 white-rest = run-rest white tt tt
 
+pub white-ascii : (b : ℕ) → in-set white b ≡ true → b < 0x80
+unfolding white
+white-ascii b w = ltb-true b 0x80 (subset white ascii tt tt b w)
+
 word-rest : (s : List ℕ) → Rest s (run (in-set word) s)
 unfolding word
 word-rest = run-rest word tt tt
@@ -200,25 +195,13 @@ take-two : (s : List ℕ) → 1 < length s → take 2 s ≡ getD s 0 0 ∷ getD 
 take-two [] h = absurd (omega arith)
 take-two (a ∷ s) h = ap (λ (l : List ℕ). a ∷ l) (take-one s (omega arith))
 
-pub white-found : {s : List ℕ} {n : ℕ} → n ≡ run (in-set white) s → 1 ≤ n → Scanned s (Found.Skip n)
-white-found {s} e h =
-    let f = run-first (in-set white) s (omega arith) in
-    subst (λ (m : ℕ). Scanned s (Found.Skip m)) (sym e) (Scanned.skip (best-white s (f .0) (f .1)) (white-rest s))
-
-pub white-past : {s : List ℕ} {n : ℕ} (t : List ℕ) (i : ℕ) → n ≡ run (in-set white) s → s ≡ drop i t → i + n < length t → in-set white (getD (drop (i + n) t) 0 0) ≡ false
-white-past {s} {n} t i e q h =
-    let u = run-next (in-set white) s (omega (arith, ap length q, length-drop i t)) in
-    rw (getD-drop, add-zero) (rw (sym e, q, getD-drop) at u)
-
-pub record Begun (s : List ℕ) (c : ℕ) : Type 0 where
-  pub some : 0 < length s
-  pub small : getD s 0 0 < 256
-  pub class-is : c ≡ classOf (getD s 0 0)
+pub found-white : {s : List ℕ} → 1 ≤ length s → in-set white (getD s 0 0) ≡ true → Scanned s (Found.Skip (run (in-set white) s))
+found-white {s} h w = Scanned.skip (best-white s h w) (white-rest s)
 
 module _ {s : List ℕ} {c : ℕ} (g : Begun s c) where
-  pub found-name : {n k : ℕ} → c ≡ 2 → n ≡ run (in-set word) s → KindIs 2 19 IDENT (take n s) k → Scanned s (Found.Token k n)
+  pub found-name : {n k : ℕ} → c ≡ 0xFE → n ≡ run (in-set word) s → KindIs 2 19 IDENT (take n s) k → Scanned s (Found.Token k n)
   found-name {n} {k} q e i =
-      let l = letter-is _ _ (g .small) (g .class-is) ∙ eq-eqb c 2 q in
+      let l = letter-is _ _ (g .small) (g .class-is) ∙ eq-eqb c 0xFE q in
       subst (λ (m : ℕ). Scanned s (Found.Token k m)) (sym e)
       (Scanned.token (least i) (best-name s k (g .some) l (subst (λ (m : ℕ). KindIs 2 19 IDENT (take m s) k) e i)) (word-rest s))
     where
@@ -226,23 +209,17 @@ module _ {s : List ℕ} {c : ℕ} (g : Begun s c) where
       least (kind a b d) = a
       least (no-kind a b) = omega arith
 
-  pub found-white : {n : ℕ} → c ≡ 1 → n ≡ run (in-set white) s → Scanned s (Found.Skip n)
-  found-white q e = white-found e (omega (arith, run-some (in-set white) s (g .some) (white-is _ _ (g .small) (g .class-is) ∙ eq-eqb c 1 q)))
-
-  pub not-white : in-set white (getD s 0 0) ≡ false → c ≡ 1 → ⊥
-  not-white w q = false≢true (sym w ∙ white-is _ _ (g .small) (g .class-is) ∙ eq-eqb c 1 q)
-
-  pub found-numeral : {n : ℕ} → c ≡ 3 → n ≡ run (in-set word) s → Scanned s (Found.Number n)
+  pub found-numeral : {n : ℕ} → c ≡ 0xFF → n ≡ run (in-set word) s → Scanned s (Found.Number n)
   found-numeral q e =
-      subst (λ (m : ℕ). Scanned s (Found.Number m)) (sym e) (Scanned.number (best-numeral s (g .some) (digit-is _ _ (g .small) (g .class-is) ∙ eq-eqb c 3 q)) (word-rest s))
+      subst (λ (m : ℕ). Scanned s (Found.Number m)) (sym e) (Scanned.number (best-numeral s (g .some) (digit-is _ _ (g .small) (g .class-is) ∙ eq-eqb c 0xFF q)) (word-rest s))
 
-  pub found-nothing : (c ≡ 0) ⊎ (50 < c) → Stuck s
-  found-nothing q = stuck s (⊎-elim (λ e. inl (sym (g .class-is) ∙ e)) (λ e. inr (subst (λ (x : ℕ). 50 < x) (g .class-is) e)) q)
+  pub found-nothing : (c ≡ 0) ⊎ ((50 < c) × (c < 0xFE)) → Stuck s
+  found-nothing q = stuck s (subst (λ (x : ℕ). (x ≡ 0) ⊎ ((50 < x) × (x < 0xFE))) (g .class-is) q)
 
 -- a mark, whose class is its kind
 pub record Marked (s : List ℕ) (c : ℕ) : Type 0 where
   pub begun : Begun s c
-  pub low : 4 ≤ c
+  pub low : 2 ≤ c
   pub high : c < 0x80
 
 module _ {s : List ℕ} {c : ℕ} (m : Marked s c) where

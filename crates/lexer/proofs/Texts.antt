@@ -6,7 +6,7 @@ use mathlib.Core.List.{List, [], _∷_}
 use Prim.Native.Nat.{ℕ, _≤_, _<_}
 use Prim.Native.String.{String}
 use native.Mathlib.Omega.{arith}
-use native.Mathlib.Decide.{decLt}
+use native.Mathlib.Decide.{decLt, ℕ-discrete}
 use lib.Dec.{T, leb, eqb, le→leb, leb→le, eqb→eq, T-not}
 use lib.ListN.{length, getD, List·getD-eq-default}
 use lib.Seq.{take-all}
@@ -46,12 +46,12 @@ fixed-one j k h e = sym (found-back j h) ∙ ap (kindFrom 0 texts) e ∙ found-b
 
 -- a kind with a fixed text is a keyword or a mark
 pub data Fixed (k : ℕ) : Type 0 where
-  keyword : 2 ≤ k → k ≤ 19 → classOf (getD (fixedOf k) 0 0) ≡ 2 → All (in-set word) (fixedOf k) → Fixed k
+  keyword : 2 ≤ k → k ≤ 19 → classOf (getD (fixedOf k) 0 0) ≡ 0xFE → All (in-set word) (fixedOf k) → Fixed k
   mark : 21 ≤ k → 21 ≤ classOf (getD (fixedOf k) 0 0) → classOf (getD (fixedOf k) 0 0) ≤ 50 → length (fixedOf k) ≤ 2 → Fixed k
 
 is-keyword : ℕ → Bool
 unfolding fixedOf texts classOf word run
-is-keyword k = within 2 19 k && (eqb (classOf (getD (fixedOf k) 0 0)) 2 && leb (length (fixedOf k)) (run (in-set word) (fixedOf k)))
+is-keyword k = within 2 19 k && (eqb (classOf (getD (fixedOf k) 0 0)) 0xFE && leb (length (fixedOf k)) (run (in-set word) (fixedOf k)))
 
 is-mark : ℕ → Bool
 unfolding fixedOf texts classOf
@@ -64,8 +64,8 @@ fixed-is k h =
     (λ p.
     let a = within-is 2 19 k (and-l (within 2 19 k) _ (T-of p)) in
     let b = and-r (within 2 19 k) _ (T-of p) in
-    let n = leb→le (length (fixedOf k)) (run (in-set word) (fixedOf k)) (and-r (eqb (classOf (getD (fixedOf k) 0 0)) 2) _ b) in
-    keyword (a .0) (a .1) (eqb→eq _ 2 (and-l (eqb (classOf (getD (fixedOf k) 0 0)) 2) _ b))
+    let n = leb→le (length (fixedOf k)) (run (in-set word) (fixedOf k)) (and-r (eqb (classOf (getD (fixedOf k) 0 0)) 0xFE) _ b) in
+    keyword (a .0) (a .1) (eqb→eq _ 0xFE (and-l (eqb (classOf (getD (fixedOf k) 0 0)) 0xFE) _ b))
     (subst (All (in-set word)) (take-all (run (in-set word) (fixedOf k)) (fixedOf k) n) (run-all (in-set word) (fixedOf k))))
     (λ p.
     let b = and-r (leb 21 k) _ (T-of p) in
@@ -131,20 +131,24 @@ next-is j b d h e =
 pub no-pair : {b d n : ℕ} → n ≡ nextOf b → (n ≡ d → ⊥) → KindIs 21 50 0 (b ∷ d ∷ []) 0
 no-pair {b} {d} e f = no-kind refl (λ j g h q. f (e ∙ next-is j b d g q .0))
 
-pub no-next : {b d n : ℕ} → n ≡ nextOf b → n ≡ 0 → KindIs 21 50 0 (b ∷ d ∷ []) 0
-no-next {b} {d} e f = no-kind refl (λ j g h q. omega (arith, next-is j b d g q .1))
-
-pub a-pair : {b d n k : ℕ} → b < 256 → n ≡ nextOf b → n ≡ d → (n ≡ 0 → ⊥) → k ≡ pairOf b → KindIs 21 50 0 (b ∷ d ∷ []) k
+pub a-pair : {b d n k : ℕ} → b < 256 → n ≡ nextOf b → n ≡ d → k ≡ pairOf b → KindIs 21 50 0 (b ∷ d ∷ []) k
 unfolding nextOf pairOf fixedOf texts kindFrom same starts
-a-pair {b} {d} {n} {k} h e f z q =
-    let t =
-    modus (leb 1 (nextOf b)) _
-    (byte-law (λ b. implies (leb 1 (nextOf b)) (within 21 50 (pairOf b) && same (fixedOf (pairOf b)) (b ∷ nextOf b ∷ []))) tt b h)
-    (le→leb 1 (nextOf b) (omega arith)) in
-    let r = within-is 21 50 (pairOf b) (and-l (within 21 50 (pairOf b)) _ t) in
-    let w : b ∷ nextOf b ∷ [] ≡ fixedOf (pairOf b) = same-is _ _ (of-T _ (and-r (within 21 50 (pairOf b)) _ t)) in
-    let g : nextOf b ≡ d = sym e ∙ f in
-    kind (omega (arith, r .0)) (omega (arith, r .1)) (ap (λ (x : ℕ). b ∷ x ∷ []) (sym g) ∙ w ∙ ap fixedOf (sym q))
+a-pair {b} {d} {k = k} h e f q =
+    elim (ℕ-discrete (nextOf b) 0) [
+      | yes z ↦
+          let t =
+          modus (eqb (nextOf b) 0) _ (byte-law (λ b. implies (eqb (nextOf b) 0) (eqb (pairOf b) 0)) tt b h) (T-of (eq-eqb _ 0 z)) in
+          no-kind (q ∙ eqb→eq _ 0 t) (λ j a c r. omega (arith, next-is j b d a r .1))
+      | no z ↦
+          let t =
+          modus (leb 1 (nextOf b)) _
+          (byte-law (λ b. implies (leb 1 (nextOf b)) (within 21 50 (pairOf b) && same (fixedOf (pairOf b)) (b ∷ nextOf b ∷ []))) tt b h)
+          (le→leb 1 (nextOf b) (omega arith)) in
+          let r = within-is 21 50 (pairOf b) (and-l (within 21 50 (pairOf b)) _ t) in
+          let w : b ∷ nextOf b ∷ [] ≡ fixedOf (pairOf b) = same-is _ _ (of-T _ (and-r (within 21 50 (pairOf b)) _ t)) in
+          let g : nextOf b ≡ d = sym e ∙ f in
+          kind (omega (arith, r .0)) (omega (arith, r .1)) (ap (λ (x : ℕ). b ∷ x ∷ []) (sym g) ∙ w ∙ ap fixedOf (sym q))
+    ]
 
 -- ---- keys
 abbrev pub keyed : List ℕ → ℕ → Bool
@@ -168,13 +172,13 @@ pub white-class : (b : ℕ) → in-set white b ≡ true → classOf b ≡ 1
 unfolding classOf white
 white-class = classed white 1 tt tt
 
-pub letter-class : (b : ℕ) → in-set letter b ≡ true → classOf b ≡ 2
+pub letter-class : (b : ℕ) → in-set letter b ≡ true → classOf b ≡ 0xFE
 unfolding classOf letter
-letter-class = classed letter 2 tt tt
+letter-class = classed letter 0xFE tt tt
 
-pub digit-class : (b : ℕ) → in-set digit b ≡ true → classOf b ≡ 3
+pub digit-class : (b : ℕ) → in-set digit b ≡ true → classOf b ≡ 0xFF
 unfolding classOf digit
-digit-class = classed digit 3 tt tt
+digit-class = classed digit 0xFF tt tt
 
 -- a set is what the class says
 says : (f : Set) (g : ℕ → Bool) → T (below 256 (λ b. Bool·beq (in-set f b) (g (classOf b)))) → (b c : ℕ) → b < 256 → c ≡ classOf b → in-set f b ≡ g c
@@ -190,26 +194,26 @@ pub white-is : (b c : ℕ) → b < 256 → c ≡ classOf b → in-set white b �
 unfolding classOf white
 white-is = says white (λ c. eqb c 1) tt
 
-pub letter-is : (b c : ℕ) → b < 256 → c ≡ classOf b → in-set letter b ≡ eqb c 2
+pub letter-is : (b c : ℕ) → b < 256 → c ≡ classOf b → in-set letter b ≡ eqb c 0xFE
 unfolding classOf letter
-letter-is = says letter (λ c. eqb c 2) tt
+letter-is = says letter (λ c. eqb c 0xFE) tt
 
-pub digit-is : (b c : ℕ) → b < 256 → c ≡ classOf b → in-set digit b ≡ eqb c 3
+pub digit-is : (b c : ℕ) → b < 256 → c ≡ classOf b → in-set digit b ≡ eqb c 0xFF
 unfolding classOf digit
-digit-is = says digit (λ c. eqb c 3) tt
+digit-is = says digit (λ c. eqb c 0xFF) tt
 
-pub word-is : (b c : ℕ) → b < 256 → c ≡ classOf b → in-set word b ≡ within 2 3 c
+pub word-is : (b c : ℕ) → b < 256 → c ≡ classOf b → in-set word b ≡ leb 0xFE c
 unfolding classOf word
-word-is = says word (within 2 3) tt
+word-is = says word (leb 0xFE) tt
 
 -- the class of a mark is its kind, and 36, the kind of `/`, is of `/` alone
-pub mark-is : (b : ℕ) → b < 256 → 4 ≤ classOf b → classOf b < 0x80 → (21 ≤ classOf b) × (classOf b ≤ 50) × (b ∷ [] ≡ fixedOf (classOf b)) × (classOf b ≡ 36 → b ≡ 47)
+pub mark-is : (b : ℕ) → b < 256 → 2 ≤ classOf b → classOf b < 0x80 → (21 ≤ classOf b) × (classOf b ≤ 50) × (b ∷ [] ≡ fixedOf (classOf b)) × (classOf b ≡ 36 → b ≡ 47)
 unfolding classOf fixedOf texts same starts
 mark-is b h p q =
     let t =
-    modus (within 4 0x7F (classOf b)) _
-    (byte-law (λ b. implies (within 4 0x7F (classOf b)) (within 21 50 (classOf b) && (same (fixedOf (classOf b)) (b ∷ []) && implies (eqb (classOf b) 36) (eqb b 47)))) tt b h)
-    (within-of 4 0x7F (classOf b) p (omega arith)) in
+    modus (within 2 0x7F (classOf b)) _
+    (byte-law (λ b. implies (within 2 0x7F (classOf b)) (within 21 50 (classOf b) && (same (fixedOf (classOf b)) (b ∷ []) && implies (eqb (classOf b) 36) (eqb b 47)))) tt b h)
+    (within-of 2 0x7F (classOf b) p (omega arith)) in
     let r = within-is 21 50 (classOf b) (and-l (within 21 50 (classOf b)) _ t) in
     let u = and-r (within 21 50 (classOf b)) _ t in (
       r .0,

@@ -6,6 +6,7 @@ use Prim.Native.Nat.{ℕ, _/_, _≤_, _<_}
 use lib.Dec.{ltb}
 use lib.ListN.{length, replicate}
 use Rattle.tables.specs.Tables.{Token, Diagnostic, tokenTable, diagnosticTable}
+use Rattle.tables.specs.Suffix.{unknownNumerals}
 use Rattle.utf8.specs.Utf8.{Utf8}
 use Rattle.lexer.specs.Lexes.{Lexes}
 use Rattle.lexer.specs.declared.lexing.Lexed.{Lexed}
@@ -28,11 +29,11 @@ pub data ResultIs (text : List ℕ) : Result → Type 0 where
 abbrev pub zeros : ℕ → List ℕ
 zeros n = replicate n 0
 
--- ---- `lex`: what fits is stored, all is counted, and every unused entry is zero; n and m are the tables' lengths
+-- ---- `lex`: what fits is stored, all is counted, the numerals with an unknown suffix besides, and every unused entry is zero; n and m are the tables' lengths
 abbrev pub lexedOf : Result → Lexed
 lexedOf long = Lexed.Long
 lexedOf encoding = Lexed.Encoding
-lexedOf (lexed ts ds) = Lexed.Done (length ts) (length ds)
+lexedOf (lexed ts ds) = Lexed.Done (length ts) (length (unknownNumerals ts)) (length ds)
 
 -- the token table; a text that is refused leaves none
 abbrev pub tokensOf : ℕ → Result → List ℕ
@@ -59,11 +60,11 @@ abbrev pub answerOf : ℕ → Result → Answer
 answerOf n long = Answer.Long
 answerOf n encoding = Answer.Encoding
 answerOf n (lexed ts (d ∷ ds)) = Answer.Lexical (length (d ∷ ds))
-answerOf n (lexed ts []) = cond (ltb (n / 16) (length ts)) (Answer.TokenRoom (length ts)) (Answer.Accepted (length ts))
+answerOf n (lexed ts []) = cond (ltb (n / 16) (length ts)) (Answer.TokenRoom (length ts)) (Answer.Accepted (length ts) (length (unknownNumerals ts)))
 
 -- the paper's number of the outcome, and the numbers of tokens and of diagnostics
 abbrev pub outcomeOf : Answer → ℕ
-outcomeOf (Answer.Accepted t) = 0
+outcomeOf (Answer.Accepted t u) = 0
 outcomeOf Answer.Long = 1
 outcomeOf Answer.Encoding = 2
 outcomeOf (Answer.Lexical d) = 3
@@ -71,7 +72,7 @@ outcomeOf (Answer.TokenRoom t) = 4
 
 -- the number of tokens that an answer gives: of all, also where the table has no room
 abbrev pub tokenCountOf : Answer → ℕ
-tokenCountOf (Answer.Accepted t) = t
+tokenCountOf (Answer.Accepted t u) = t
 tokenCountOf Answer.Long = 0
 tokenCountOf Answer.Encoding = 0
 tokenCountOf (Answer.Lexical d) = 0
@@ -79,7 +80,7 @@ tokenCountOf (Answer.TokenRoom t) = t
 
 -- the number of lexical errors that it gives, with outcome 3 alone
 abbrev pub diagnosticCountOf : Answer → ℕ
-diagnosticCountOf (Answer.Accepted t) = 0
+diagnosticCountOf (Answer.Accepted t u) = 0
 diagnosticCountOf Answer.Long = 0
 diagnosticCountOf Answer.Encoding = 0
 diagnosticCountOf (Answer.Lexical d) = d
@@ -87,7 +88,7 @@ diagnosticCountOf (Answer.TokenRoom t) = 0
 
 -- after a refusal the token table is all zero, and only outcome 3 has diagnostics
 abbrev pub tokensAfter : ℕ → Result → Answer → List ℕ
-tokensAfter n x (Answer.Accepted t) = tokensOf n x
+tokensAfter n x (Answer.Accepted t u) = tokensOf n x
 tokensAfter n x Answer.Long = zeros n
 tokensAfter n x Answer.Encoding = zeros n
 tokensAfter n x (Answer.Lexical d) = zeros n

@@ -6,7 +6,9 @@ use Prim.Native.Nat.{ℕ, _+_, _≤_, _<_}
 use lib.ListN.{length, getD}
 use Rattle.patterns.specs.Bytes.{in-set, run}
 use Rattle.utf8.specs.Utf8.{Utf8, Begins, Rest}
+use Rattle.tables.specs.TokenKinds.{NUMBER}
 use Rattle.lexer.specs.Kinds.{fixedOf}
+use Rattle.lexer.specs.Classes.{classOf}
 use Rattle.lexer.specs.Tokens.{Best, Stuck}
 use Rattle.lexer.specs.Lexes as Lexes
 use Rattle.lexer.specs.Lexes.{Step}
@@ -19,6 +21,13 @@ use Rattle.lexer.specs.declared.lexing.Item.the-variants as Item
 pub data KindIs (a e none : ℕ) (w : List ℕ) (r : ℕ) : Type 0 where
   kind : a ≤ r → r ≤ e → w ≡ fixedOf r → KindIs a e none w r
   no-kind : r ≡ none → ((j : ℕ) → a ≤ j → j ≤ e → w ≡ fixedOf j → ⊥) → KindIs a e none w r
+
+-- a text begins with a byte of class c, which is no white space
+pub record Begun (s : List ℕ) (c : ℕ) : Type 0 where
+  pub some : 0 < length s
+  pub small : getD s 0 0 < 256
+  pub class-is : c ≡ classOf (getD s 0 0)
+  pub dark : c ≡ 1 → ⊥
 
 -- how far a comment goes: to the end, to an LF, or to a byte that begins no character
 abbrev pub not-newline : ℕ → Bool
@@ -48,6 +57,7 @@ pub data Scanned (s : List ℕ) : Found → Type 0 where
 -- the same with the numeral's answer
 pub data Stepped (s : List ℕ) : Item → Type 0 where
   skipped : {n : ℕ} → Step s n Lexes.skipped → Rest s n → Stepped s (Item.Skipped n)
-  token : {n k x b v : ℕ} → Step s n (Lexes.token k x b v) → Rest s n → Stepped s (Item.Token n k x b v)
+  token : {n k : ℕ} → Step s n (Lexes.token k 0 0 0) → Rest s n → Stepped s (Item.Token n k)
+  literal : {n v x b : ℕ} → Step s n (Lexes.token NUMBER x b v) → Rest s n → Stepped s (Item.Literal n v x b)
   error : {n r : ℕ} → Step s n (Lexes.error r) → Rest s n → Stepped s (Item.Error n r)
   broken : (Utf8 s → ⊥) → Stepped s Item.NotUtf8

@@ -8,7 +8,7 @@ ghost use lib.ListN.{length};
 ghost use Rattle.lexer.specs.Answers.{AnswerIs, EntryIs};
 
 pub enum Answer {
-    Accepted(usize),
+    Accepted { tokens: usize, unknown: usize },
     Long,
     Encoding,
     Lexical(usize),
@@ -24,6 +24,7 @@ pub fn lex_alone(text: &[u8], tokens: &mut [u8], diagnostics: &mut [u8]) -> Answ
         Lexed::Encoding => Answer::Encoding,
         Lexed::Done {
             tokens: t,
+            unknown: u,
             diagnostics: d,
         } => {
             if d > 0 {
@@ -34,7 +35,10 @@ pub fn lex_alone(text: &[u8], tokens: &mut [u8], diagnostics: &mut [u8]) -> Answ
                 clear_from(tokens, 0);
                 return Answer::TokenRoom(t);
             }
-            Answer::Accepted(t)
+            Answer::Accepted {
+                tokens: t,
+                unknown: u,
+            }
         }
     }
 }
@@ -54,7 +58,10 @@ pub extern "C" fn cairo_m_lex(
     *diagnostic_count = 0;
     let a = lex_alone(text, tokens, diagnostics);
     match a {
-        Answer::Accepted(t) => {
+        Answer::Accepted {
+            tokens: t,
+            unknown: _,
+        } => {
             *token_count = t;
             0
         }

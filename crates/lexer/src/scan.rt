@@ -2,19 +2,17 @@
 use super::class::DIGIT;
 use super::class::FOLLOWING;
 use super::class::LETTER;
-use super::class::WHITE;
 use patterns::is_word;
 use tables::token_type;
 use utf8::char_len;
 ghost use mathlib.Core.Path.{_≡_};
-ghost use mathlib.Core.Bool.{false};
 ghost use mathlib.Core.List.{[], _∷_};
 ghost use Prim.Native.Nat.{_+_, _*_, _%_, _≤_, _<_};
-ghost use lib.ListN.{length, getD};
-ghost use Rattle.patterns.specs.Bytes.{in-set, white, word, run};
+ghost use lib.ListN.{length};
+ghost use Rattle.patterns.specs.Bytes.{in-set, word, run};
 ghost use Rattle.lexer.specs.Classes.{classOf, nextOf, pairOf, Table, KeyTable};
 ghost use Rattle.tables.specs.TokenKinds.{IDENT};
-ghost use Rattle.lexer.specs.Scans.{KindIs, Still, Plain, LineIs, Scanned};
+ghost use Rattle.lexer.specs.Scans.{KindIs, Begun, Still, Plain, LineIs, Scanned};
 ghost use Rattle.lexer.specs.Tokens.{Stuck};
 
 // What stands at the start of a text, and its size.
@@ -26,33 +24,32 @@ pub enum Found {
     NotUtf8,
 }
 
-// How many bytes from the start are white space.
-pub(crate) fn white_run(t: &[u8], classes: &[u8; 256]) -> usize
-    requires { ⌜ Table classOf (now classes) ⌝ }
-    ensures { λ r. ⌜ r ≡ run (in-set white) (now (t .entry)) ⌝ }
-{
-    let mut i = 0;
-    while i < t.len() {
-        if classes[t[i] as usize] != WHITE {
-            return i;
-        }
-        i += 1;
-    }
-    i
-}
-
-// How many bytes from the start are letters, digits or `_`: a name's or a numeral's size.
+// How many bytes from the start are letters, digits or `_`: a name's or a numeral's size. Four at a time while there are four.
 fn word_run(t: &[u8], classes: &[u8; 256]) -> usize
     requires { ⌜ Table classOf (now classes) ⌝ }
     ensures { λ r. ⌜ r ≡ run (in-set word) (now (t .entry)) ⌝ }
 {
     let mut i = 0;
-    while i < t.len() {
-        let c = classes[t[i] as usize];
-        if c < LETTER {
+    while t.len() - i >= 4 {
+        if classes[t[i] as usize] < LETTER {
             return i;
         }
-        if c > DIGIT {
+        let j = i + 1;
+        if classes[t[j] as usize] < LETTER {
+            return j;
+        }
+        let k = j + 1;
+        if classes[t[k] as usize] < LETTER {
+            return k;
+        }
+        let l = k + 1;
+        if classes[t[l] as usize] < LETTER {
+            return l;
+        }
+        i = l + 1;
+    }
+    while i < t.len() {
+        if classes[t[i] as usize] < LETTER {
             return i;
         }
         i += 1;
@@ -220,11 +217,7 @@ fn pair_of(b: u8, d: u8, nexts: &[u8; 256], pairs: &[u8; 256]) -> u8
     requires { ⌜ Table pairOf (now pairs) ⌝ }
     ensures { λ r. ⌜ KindIs 21 50 0 (b ∷ d ∷ []) r ⌝ }
 {
-    let n = nexts[b as usize];
-    if n != d {
-        return 0;
-    }
-    if n == 0 {
+    if nexts[b as usize] != d {
         return 0;
     }
     pairs[b as usize]
@@ -246,21 +239,19 @@ fn strange(t: &[u8]) -> Found
 // By the class of the first byte, which is no white space.
 pub(crate) fn scan(
     t: &[u8],
+    c: u8,
     classes: &[u8; 256],
     nexts: &[u8; 256],
     pairs: &[u8; 256],
     keys: &[u8; 256],
 ) -> Found
-    requires { ⌜ 0 < length (now t) ⌝ }
-    requires { ⌜ in-set white (getD (now t) 0 0) ≡ false ⌝ }
+    requires { ⌜ Begun (now t) c ⌝ }
     requires { ⌜ Table classOf (now classes) ⌝ }
     requires { ⌜ Table nextOf (now nexts) ⌝ }
     requires { ⌜ Table pairOf (now pairs) ⌝ }
     requires { ⌜ KeyTable (now keys) ⌝ }
     ensures { λ r. ⌜ Scanned (now (t .entry)) r ⌝ }
 {
-    let b = t[0];
-    let c = classes[b as usize];
     if c == LETTER {
         let n = word_run(t, classes);
         return Found::Token {
@@ -280,6 +271,7 @@ pub(crate) fn scan(
     if t.len() == 1 {
         return Found::Token { kind: c, size: 1 };
     }
+    let b = t[0];
     let d = t[1];
     if c == token_type::DIV {
         if d != b'/' {

@@ -61,8 +61,13 @@ fn numeral_entry(spelling: &[u8]) {
     let mut suffix: u8 = 0xAA;
     let mut base: u8 = 0xAA;
     let mut reason: u8 = 0xAA;
-    let outcome =
-        numeral::cairo_m_numeral(spelling, &mut value, &mut suffix, &mut base, &mut reason);
+    let outcome = numeral::cairo_m_numeral(
+        spelling,
+        &mut value,
+        &mut suffix,
+        &mut base,
+        &mut reason,
+    );
     words(b"n");
     field(b' ', outcome as u64);
     field(b' ', value);

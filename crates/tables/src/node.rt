@@ -10,7 +10,16 @@ ghost use lib.ListN.{length};
 ghost use Rattle.tables.specs.Tables.{encodeNode, stored, kept, nodeAt};
 
 // Stores entry i, where there is room for it.
-pub fn put_node(t: &mut [u8], i: usize, kind: u8, base: u8, start: u16, end: u16, children: u16, value: u64)
+pub fn put_node(
+    t: &mut [u8],
+    i: usize,
+    kind: u8,
+    base: u8,
+    start: u16,
+    end: u16,
+    children: u16,
+    value: u64,
+)
     ensures { λ r. ⌜ now (t .exit) ≡ stored 16 (now (t .entry)) i (encodeNode (record { kind = kind; base = base; start = start; end = end; children = children; value = value })) ⌝ }
 {
     if i < t.len() / 16 {

@@ -10,7 +10,16 @@ ghost use lib.ListN.{length};
 ghost use Rattle.tables.specs.Tables.{encodeToken, stored, kept, tokenAt};
 
 // Stores entry i, where there is room for it.
-pub fn put_token(t: &mut [u8], i: usize, kind: u8, suffix: u8, start: u16, end: u16, base: u8, value: u64)
+pub fn put_token(
+    t: &mut [u8],
+    i: usize,
+    kind: u8,
+    suffix: u8,
+    start: u16,
+    end: u16,
+    base: u8,
+    value: u64,
+)
     ensures { λ r. ⌜ now (t .exit) ≡ stored 16 (now (t .entry)) i (encodeToken (record { kind = kind; suffix = suffix; start = start; end = end; base = base; value = value })) ⌝ }
 {
     if i < t.len() / 16 {

@@ -1,7 +1,7 @@
 use mathlib.Core.Path.{refl}
 use native.Mathlib.Omega.{arith}
 use borrow.Author.Needs.{needs}
-use Rattle.cairo_m.proofs.Joining.{in-table, refuses, takes, reads-accepted, reads-refused}
+use Rattle.cairo_m.proofs.Joining.{in-table, refuses, takes, unknown-in, reads-accepted, reads-refused}
 use Rattle.cairo_m.proofs.read.Statement.{statement}
 use Rattle.cairo_m.proofs.read.Tie as tie
 
@@ -15,7 +15,7 @@ read-spec =
     (λ c. search needs)
     (λ c. search needs)
     (λ c. let d = c .before .before in let h = in-table (d .before .before .before .before .before .before .lex-alone .ensures) (d .lexed .given .1) (search needs) in omega arith)
-    (λ c κs. search needs)
+    (λ c κs. let f = c .before .before .before .before .before in unknown-in (takes (f .before .before .before .before .before .before .lex-alone .ensures) (f .lexed .given .1)) refl)
     (λ c κs. search needs)
     (λ c. search needs)
     (λ c. search needs)

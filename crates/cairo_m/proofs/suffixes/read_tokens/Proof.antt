@@ -16,21 +16,24 @@ read-tokens-spec =
     (λ c κs. search needs)
     (λ c. search needs)
     (λ c. search needs)
-    (λ c. search (needs, closes-suffix))
+    (λ c.
+    let d = c .before .before .before .before .before .before .before .before in
+    let f = d .before .before in
+    closes-suffix (f .before .before .before .before .parse .ensures) (f .parsed .given .1) (f .before .before .before .before .before .before .before .before .before .before .pre) (d .if1 .taken) (c .before .before .before .before .before .before .clear-from .ensures) (search needs) (c .before .before .unknown-suffixes .ensures))
     (λ c κs. search needs)
     (λ c κs. search needs)
     (λ c. search needs)
-    (λ c. search needs)
-    (λ c. search (needs, closes-room))
+    (λ c.
+    let d = c .before .before .before .before .before .before .before in
+    let f = d .before .before in
+    closes-room (f .before .before .before .before .parse .ensures) (f .parsed .given .1) (f .before .before .before .before .before .before .before .before .before .before .pre) (d .if1 .left) (omega (arith, f .before .before .before .before .before .before .before .before .before .before .good)) (c .before .before .before .before .before .room .ensures) (c .before .before .before .before .if2 .taken) (c .before .before .clear-from2 .ensures) (search needs))
     (λ c κs. search needs)
     (λ c. search needs)
     (λ c. search (needs, closes-nest))
     (λ c. search needs)
     (λ c. search (needs, closes-syntax))
     (λ c. search needs)
-    (λ c. search needs)
     (λ c.
     let d = c .before .before .before .before in
-    let e = d .before .before .before in
-    let f = e .before .before .before in
-    closes-accepted (f .before .before .before .before .parse .ensures) (f .parsed .given .1) (e .unknown-suffixes .ensures) (d .if1 .left) (omega (arith, f .before .before .before .before .before .before .before .before .before .before .good)) (c .before .before .room .ensures) (c .before .if2 .left) (c .room2 .ensures) (search needs)))
+    let f = d .before .before in
+    closes-accepted (f .before .before .before .before .parse .ensures) (f .parsed .given .1) (f .before .before .before .before .before .before .before .before .before .before .pre) (d .if1 .left) (omega (arith, f .before .before .before .before .before .before .before .before .before .before .good)) (c .before .before .room .ensures) (c .before .if2 .left) (c .room2 .ensures) (search needs)))

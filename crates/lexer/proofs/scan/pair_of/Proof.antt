@@ -1,5 +1,5 @@
 use borrow.Author.Needs.{needs}
-use Rattle.lexer.proofs.Texts.{no-pair, no-next, a-pair}
+use Rattle.lexer.proofs.Texts.{no-pair, a-pair}
 use Rattle.lexer.proofs.scan.pair_of.Statement.{statement}
 use Rattle.lexer.proofs.scan.pair_of.Tie as tie
 
@@ -9,8 +9,7 @@ pair-of-spec =
     (tie.spec
     (λ c. search needs)
     (λ c. let s = c .before .before in no-pair (s .pre .0 .rule _ (s .fits .b .fits)) (c .if1 .taken))
-    (λ c. let s = c .before .before .before in no-next (s .pre .0 .rule _ (s .fits .b .fits)) (c .if2 .taken))
     (λ c. search needs)
     (λ c.
-    let s = c .before .before .before .before in
-    a-pair (s .fits .b .fits) (s .pre .0 .rule _ (s .fits .b .fits)) (c .before .before .if1 .left) (c .before .if2 .left) (s .pre .1 .rule _ (s .fits .b .fits))))
+    let s = c .before .before .before in
+    a-pair (s .fits .b .fits) (s .pre .0 .rule _ (s .fits .b .fits)) (c .before .if1 .left) (s .pre .1 .rule _ (s .fits .b .fits))))

@@ -1,8 +1,8 @@
--- The numerals with an unknown suffix, of which outcome 8 is said: `unknown-suffixes` shows that they are the literals that a tree keeps. Assumes nothing.
+-- The numerals with an unknown suffix, of which outcome 8 is said: `unknown-suffixes` of grammar shows that they are the literals that a tree keeps. Assumes nothing.
 use mathlib.Core.Bool.{Bool, true, false, _&&_}
 use mathlib.Core.List.{List, [], _∷_, _++_}
 use lib.Dec.{eqb}
 use Rattle.tables.specs.Tables.{Token}
 
 -- a numeral with a suffix that is neither felt nor u32
 abbrev pub unknownSuffix : Token → Bool
