@@ -93,7 +93,7 @@ sight (b ∷ s) =
     (cond (eqb c 1) (seen 0 (run (in-set white) (b ∷ s)))
     (cond (eqb c 0xFE) (seen (keyword 18 (take n (b ∷ s))) n)
     (cond (eqb c 0xFF) (seen 1 n)
-    (cond (within 2 0x7F c) (mark c b s) unseen))))
+    (cond (ltb c 0x80) (mark c b s) unseen))))
     unseen
 
 sight-is : (s : List ℕ) → Is s (sight s)
@@ -108,8 +108,8 @@ sight-is (b ∷ s) =
     let g : Begun (b ∷ s) c = record { some = omega arith; small = ltb-true b 256 h; class-is = refl; dark = eqb-false c 1 d } in
     either-way (Is _) (eqb c 0xFE) (λ e. token-is (found-name g (eqb-true c 0xFE e) refl (keyword-is 18 (take n (b ∷ s)) (omega arith) (λ j h k. absurd (omega arith)))))
     (λ e. either-way (Is _) (eqb c 0xFF) (λ e. number-is (found-numeral g (eqb-true c 0xFF e) refl))
-    (λ e. either-way (Is _) (within 2 0x7F c)
-    (λ e. let h = within-is 2 0x7F c (T-of e) in mark-is c b s (record { begun = g; low = h .0; high = omega arith }))
+    (λ e. either-way (Is _) (ltb c 0x80)
+    (λ e. mark-is c b s (record { begun = g; low = ltb-true c 0x80 e }))
     (λ e. is-unseen)))))
     (λ e. is-unseen)
 

@@ -213,12 +213,11 @@ best-mark s k n h o a b f lone t =
         ]
 
 -- ---- nothing
-nothing-leads : (s : List ℕ) (j m c : ℕ) → (c ≡ 0) ⊎ ((50 < c) × (c < 0xFE)) → Lead s j m c → ⊥
-nothing-leads s j m c e (is-white q a) = ⊎-elim (λ u. omega arith) (λ u. omega (arith, u .0)) e
-nothing-leads s j m c e (is-comment q b a) = ⊎-elim (λ u. omega arith) (λ u. omega (arith, u .0)) e
-nothing-leads s j m c (inl e) (is-word a q) = ⊎-elim (λ u. omega (arith, u .0)) (λ u. omega (arith, u .0)) q
-nothing-leads s j m c (inr e) (is-word a q) = ⊎-elim (λ u. omega (arith, e .1, u .0)) (λ u. omega (arith, e .1, u .0)) q
-nothing-leads s j m c e (is-mark q b d g a) = ⊎-elim (λ u. omega arith) (λ u. omega (arith, u .0)) e
+nothing-leads : (s : List ℕ) (j m c : ℕ) → 50 < c → c < 0xFE → Lead s j m c → ⊥
+nothing-leads s j m c e f (is-white q a) = omega arith
+nothing-leads s j m c e f (is-comment q b a) = omega arith
+nothing-leads s j m c e f (is-word a q) = ⊎-elim (λ u. omega (arith, u .0)) (λ u. omega (arith, u .0)) q
+nothing-leads s j m c e f (is-mark q b d g a) = omega arith
 
-pub stuck : (s : List ℕ) → (classOf (getD s 0 0) ≡ 0) ⊎ ((50 < classOf (getD s 0 0)) × (classOf (getD s 0 0) < 0xFE)) → Stuck s
-stuck s e j m h p = nothing-leads s j m (classOf (getD s 0 0)) e (lead s j m h p)
+pub stuck : (s : List ℕ) → 50 < classOf (getD s 0 0) → classOf (getD s 0 0) < 0xFE → Stuck s
+stuck s e f j m h p = nothing-leads s j m (classOf (getD s 0 0)) e f (lead s j m h p)

@@ -1,7 +1,7 @@
 -- The scanners' loops, and what the scanner finds by the class of the first byte. Assumes nothing.
 use mathlib.Core.Path.{_≡_, refl, sym, ap, subst, _∙_}
 use mathlib.Core.Bool.{Bool, true, false, cond, not, false≢true}
-use mathlib.Core.Logic.{_⊎_, inl, inr, ⊎-elim}
+use mathlib.Core.Logic.{⊎-elim}
 use mathlib.Core.List.{List, [], _∷_}
 use Prim.Native.Nat.{ℕ, zero, suc, _+_, _-_, _≤_, _<_}
 use native.Mathlib.Nat.{add-zero}
@@ -14,18 +14,18 @@ use borrow.Author.Tests.{eq-eqb, ne-eqb, le-leb, lt-leb, lt-ltb, ltb-true}
 use Rattle.patterns.specs.Bytes.{within, Set, in-set, white, word, run}
 use Rattle.patterns.specs.Patterns.{All}
 use Rattle.patterns.proofs.Tests.{T-of, of-T, or-cases, implies}
-use Rattle.patterns.proofs.Table.{below, small, within-is, within-of, subset}
-use Rattle.patterns.proofs.Runs.{Passed, passed-none, passed-more, passed-stop, passed-end, run-within, run-all, run-some, all-imp}
+use Rattle.patterns.proofs.Table.{below, small, within-is, subset}
+use Rattle.patterns.proofs.Runs.{Passed, passed-none, passed-more, passed-stop, passed-end, run-within, run-all, all-imp}
 use Rattle.utf8.specs.Utf8.{Begins, FirstChar, Rest, begins, nothing}
 use Rattle.utf8.proofs.Laws.{begins-some, begins-high, rest-none, rest-char, rest-ascii, rest-more, rest-stop, next-ascii}
-use Rattle.tables.specs.TokenKinds.{IDENT}
+use Rattle.tables.specs.TokenKinds.{IDENT, LPAREN, SEMI}
 use Rattle.lexer.specs.Kinds.{texts, fixedOf}
 use Rattle.lexer.specs.Classes.{classOf, Table}
 use Rattle.lexer.specs.Tokens.{Best, Stuck}
 use Rattle.lexer.specs.Scans.{KindIs, kind, no-kind, Begun, not-newline, Still, Plain, LineIs, line, broken, Scanned}
 use Rattle.lexer.specs.declared.scan.Found.{Found}
 use Rattle.lexer.specs.declared.scan.Found.the-variants as Found
-use Rattle.lexer.proofs.Texts.{white-is, letter-is, digit-is, word-is, mark-is, next-is, kind-law, fixed-kind}
+use Rattle.lexer.proofs.Texts.{white-is, letter-is, digit-is, word-is, mark-is, next-is, lone-next, kind-law, fixed-kind}
 use Rattle.lexer.proofs.Leads.{best-white, best-comment, best-numeral, best-name, best-mark, stuck}
 
 -- ---- a run's first byte
@@ -213,18 +213,17 @@ module _ {s : List ℕ} {c : ℕ} (g : Begun s c) where
   found-numeral q e =
       subst (λ (m : ℕ). Scanned s (Found.Number m)) (sym e) (Scanned.number (best-numeral s (g .some) (digit-is _ _ (g .small) (g .class-is) ∙ eq-eqb c 0xFF q)) (word-rest s))
 
-  pub found-nothing : (c ≡ 0) ⊎ ((50 < c) × (c < 0xFE)) → Stuck s
-  found-nothing q = stuck s (subst (λ (x : ℕ). (x ≡ 0) ⊎ ((50 < x) × (x < 0xFE))) (g .class-is) q)
+  pub found-nothing : 0x80 ≤ c → c < 0xFE → Stuck s
+  found-nothing h k = stuck s (omega (arith, g .class-is)) (omega (arith, g .class-is))
 
 -- a mark, whose class is its kind
 pub record Marked (s : List ℕ) (c : ℕ) : Type 0 where
   pub begun : Begun s c
-  pub low : 2 ≤ c
-  pub high : c < 0x80
+  pub low : c < 0x80
 
 module _ {s : List ℕ} {c : ℕ} (m : Marked s c) where
   mark-of : (21 ≤ classOf (getD s 0 0)) × (classOf (getD s 0 0) ≤ 50) × (getD s 0 0 ∷ [] ≡ fixedOf (classOf (getD s 0 0))) × (classOf (getD s 0 0) ≡ 36 → getD s 0 0 ≡ 47)
-  mark-of = mark-is (getD s 0 0) (m .begun .small) (omega (arith, m .low)) (omega (arith, m .high))
+  mark-of = mark-is (getD s 0 0) (m .begun .small) (λ e. m .begun .dark (m .begun .class-is ∙ e)) (omega (arith, m .low, m .begun .class-is))
 
   no-comment : (c ≡ 36 → getD s 1 0 ≡ 47 → ⊥) → classOf (getD s 0 0) ≡ 36 → getD s 1 0 ≡ 47 → ⊥
   no-comment f e = f (m .begun .class-is ∙ e)
@@ -233,8 +232,14 @@ module _ {s : List ℕ} {c : ℕ} (m : Marked s c) where
   single f lone =
       let k = mark-of in
       let e : take 1 s ≡ fixedOf c = take-one s (m .begun .some) ∙ k .2 ∙ ap fixedOf (sym (m .begun .class-is)) in
-      Scanned.token {k = c} (omega (arith, m .low))
+      Scanned.token {k = c} (omega (arith, k .0, m .begun .class-is))
       (best-mark s c 1 (m .begun .some) (omega arith) (k .0) (k .1) (no-comment f) (λ j a b d t. lone j b d (sym (take-two s (omega arith)) ∙ t)) e) (mark-rest 1 c s (m .begun .some) (omega arith) e)
+
+  pub found-lone : within LPAREN SEMI c ≡ true → Scanned s (Found.Token c 1)
+  found-lone w =
+      let r = within-is LPAREN SEMI c (T-of w) in
+      let n = lone-next (getD s 0 0) (m .begun .small) (ap (within LPAREN SEMI) (sym (m .begun .class-is)) ∙ w) in
+      single (λ q e. omega (arith, r .0)) (λ j a b e. omega (arith, n, next-is j (getD s 0 0) (getD s 1 0) b e .1))
 
   pub found-last : length s ≡ 1 → Scanned s (Found.Token c 1)
   found-last h = single (λ q e. omega (arith, List·getD-eq-default s 0 {n = 1} (omega arith))) (λ j a b e. omega arith)

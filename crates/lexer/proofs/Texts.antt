@@ -7,17 +7,17 @@ use Prim.Native.Nat.{ℕ, _≤_, _<_}
 use Prim.Native.String.{String}
 use native.Mathlib.Omega.{arith}
 use native.Mathlib.Decide.{decLt, ℕ-discrete}
-use lib.Dec.{T, leb, eqb, le→leb, leb→le, eqb→eq, T-not}
+use lib.Dec.{T, leb, ltb, eqb, le→leb, leb→le, eqb→eq, T-not}
 use lib.ListN.{length, getD, List·getD-eq-default}
 use lib.Seq.{take-all}
-use borrow.Author.Tests.{eqb-true, eq-eqb}
+use borrow.Author.Tests.{eqb-true, eq-eqb, ne-eqb, lt-ltb}
 use Rattle.patterns.specs.Bytes.{bytes, within, same, starts, Set, in-set, white, letter, digit, word, run}
 use Rattle.patterns.specs.Patterns.{All}
 use Rattle.patterns.proofs.Tests.{T-of, of-T, and-l, and-r, and-t, or-cases, implies, modus}
 use Rattle.patterns.proofs.Table.{every, at, below, below-law, byte-law, small, subset, within-is, within-of}
 use Rattle.patterns.proofs.Runs.{run-all}
 use Rattle.patterns.proofs.Words.{same-is, same-self}
-use Rattle.tables.specs.TokenKinds.{IDENT}
+use Rattle.tables.specs.TokenKinds.{IDENT, LPAREN, SEMI}
 use Rattle.lexer.specs.Kinds.{texts, fixedOf}
 use Rattle.lexer.specs.Classes.{kindFrom, nextOf, pairOf, classOf, Table, keyOf, KeyTable}
 use Rattle.lexer.specs.Scans.{KindIs, kind, no-kind}
@@ -150,6 +150,11 @@ a-pair {b} {d} {k = k} h e f q =
           kind (omega (arith, r .0)) (omega (arith, r .1)) (ap (λ (x : ℕ). b ∷ x ∷ []) (sym g) ∙ w ∙ ap fixedOf (sym q))
     ]
 
+-- none begins with a bracket, a comma or a semicolon
+pub lone-next : (b : ℕ) → b < 256 → within LPAREN SEMI (classOf b) ≡ true → nextOf b ≡ 0
+unfolding classOf nextOf
+lone-next b h e = eqb→eq _ 0 (modus (within LPAREN SEMI (classOf b)) _ (byte-law (λ b. implies (within LPAREN SEMI (classOf b)) (eqb (nextOf b) 0)) tt b h) (T-of e))
+
 -- ---- keys
 abbrev pub keyed : List ℕ → ℕ → Bool
 keyed l j = implies (within 2 19 j) (leb 1 (getD l (keyOf (fixedOf j)) 0))
@@ -207,13 +212,13 @@ unfolding classOf word
 word-is = says word (leb 0xFE) tt
 
 -- the class of a mark is its kind, and 36, the kind of `/`, is of `/` alone
-pub mark-is : (b : ℕ) → b < 256 → 2 ≤ classOf b → classOf b < 0x80 → (21 ≤ classOf b) × (classOf b ≤ 50) × (b ∷ [] ≡ fixedOf (classOf b)) × (classOf b ≡ 36 → b ≡ 47)
+pub mark-is : (b : ℕ) → b < 256 → (classOf b ≡ 1 → ⊥) → classOf b < 0x80 → (21 ≤ classOf b) × (classOf b ≤ 50) × (b ∷ [] ≡ fixedOf (classOf b)) × (classOf b ≡ 36 → b ≡ 47)
 unfolding classOf fixedOf texts same starts
 mark-is b h p q =
     let t =
-    modus (within 2 0x7F (classOf b)) _
-    (byte-law (λ b. implies (within 2 0x7F (classOf b)) (within 21 50 (classOf b) && (same (fixedOf (classOf b)) (b ∷ []) && implies (eqb (classOf b) 36) (eqb b 47)))) tt b h)
-    (within-of 2 0x7F (classOf b) p (omega arith)) in
+    modus (ltb (classOf b) 0x80 && not (eqb (classOf b) 1)) _
+    (byte-law (λ b. implies (ltb (classOf b) 0x80 && not (eqb (classOf b) 1)) (within 21 50 (classOf b) && (same (fixedOf (classOf b)) (b ∷ []) && implies (eqb (classOf b) 36) (eqb b 47)))) tt b h)
+    (and-t (ltb (classOf b) 0x80) _ (T-of (lt-ltb _ 0x80 q)) (T-of (ap not (ne-eqb _ 1 p)))) in
     let r = within-is 21 50 (classOf b) (and-l (within 21 50 (classOf b)) _ t) in
     let u = and-r (within 21 50 (classOf b)) _ t in (
       r .0,

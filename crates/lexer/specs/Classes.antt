@@ -15,7 +15,7 @@ unfolding same
 kindFrom k [] w = 0
 kindFrom k (t ∷ l) w = cond (same (bytes t) w) k (kindFrom (suc k) l w)
 
--- 1 white space, the kind of the mark that the byte is by itself, 0xFE a name, 0xFF a numeral, 0 no token; from 0x80 on
+-- 1 white space, the kind of the mark that the byte is by itself, 0xFE a name, 0xFF a numeral, 0x85 no token; from 0x80 on
 -- 0x80 a following byte of a character, 0x82, 0x83, 0x84 the first byte of one of two, three, four bytes, 0x81 neither
 unfoldable pub classOf : ℕ → ℕ
 unfolding white letter digit kindFrom texts
@@ -23,7 +23,7 @@ classOf b =
     cond (in-set white b) 1
     (cond (in-set letter b) 0xFE
     (cond (in-set digit b) 0xFF
-    (cond (ltb b 0x80) (kindFrom 0 texts (b ∷ []))
+    (cond (ltb b 0x80) (cond (eqb (kindFrom 0 texts (b ∷ [])) 0) 0x85 (kindFrom 0 texts (b ∷ [])))
     (cond (ltb b 0xC0) 0x80
     (cond (within 0xC2 0xDF b) 0x82
     (cond (within 0xE0 0xEF b) 0x83

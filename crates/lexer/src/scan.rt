@@ -1,7 +1,7 @@
 // The longest match at the start of a text.
 use super::class::DIGIT;
-use super::class::FOLLOWING;
 use super::class::LETTER;
+use super::class::STRANGE;
 use patterns::is_word;
 use tables::token_type;
 use utf8::char_len;
@@ -9,9 +9,9 @@ ghost use mathlib.Core.Path.{_≡_};
 ghost use mathlib.Core.List.{[], _∷_};
 ghost use Prim.Native.Nat.{_+_, _*_, _%_, _≤_, _<_};
 ghost use lib.ListN.{length};
-ghost use Rattle.patterns.specs.Bytes.{in-set, word, run};
+ghost use Rattle.patterns.specs.Bytes.{within, in-set, word, run};
 ghost use Rattle.lexer.specs.Classes.{classOf, nextOf, pairOf, Table, KeyTable};
-ghost use Rattle.tables.specs.TokenKinds.{IDENT};
+ghost use Rattle.tables.specs.TokenKinds.{IDENT, LPAREN, SEMI};
 ghost use Rattle.lexer.specs.Scans.{KindIs, Begun, Still, Plain, LineIs, Scanned};
 ghost use Rattle.lexer.specs.Tokens.{Stuck};
 
@@ -223,6 +223,16 @@ fn pair_of(b: u8, d: u8, nexts: &[u8; 256], pairs: &[u8; 256]) -> u8
     pairs[b as usize]
 }
 
+// A bracket, a comma or a semicolon, with which no mark of two bytes begins.
+fn single(c: u8) -> bool
+    ensures { λ r. ⌜ r ≡ within LPAREN SEMI c ⌝ }
+{
+    if c < token_type::L_PAREN {
+        return false;
+    }
+    c <= token_type::SEMICOLON
+}
+
 // A character that begins no token.
 fn strange(t: &[u8]) -> Found
     requires { ⌜ 0 < length (now t) ⌝ }
@@ -252,21 +262,21 @@ pub(crate) fn scan(
     requires { ⌜ KeyTable (now keys) ⌝ }
     ensures { λ r. ⌜ Scanned (now (t .entry)) r ⌝ }
 {
-    if c == LETTER {
+    if c >= LETTER {
         let n = word_run(t, classes);
+        if c == DIGIT {
+            return Found::Number(n);
+        }
         return Found::Token {
             kind: keyword(&t[..n], keys),
             size: n,
         };
     }
-    if c == DIGIT {
-        return Found::Number(word_run(t, classes));
-    }
-    if c == 0 {
+    if c >= STRANGE {
         return strange(t);
     }
-    if c >= FOLLOWING {
-        return strange(t);
+    if single(c) {
+        return Found::Token { kind: c, size: 1 };
     }
     if t.len() == 1 {
         return Found::Token { kind: c, size: 1 };
