@@ -7,6 +7,8 @@
 //! lent tables; what it takes without that is given besides. Each clears the entries that are left, and no more. The library is lent
 //! no list of records, which the Rust reader does not have.
 //!
+//! tests/bench/run builds the driver with 0, 16, 32 and 48 bytes before the code of both, as a loop's place moves its speed.
+//!
 //! One round times a batch of calls of each in turn, so that a change of the machine's speed meets all alike. A figure is the median
 //! of the rounds; a ratio is the median of the rounds' ratios, above 1 where the library is faster.
 
@@ -47,6 +49,14 @@ extern "C" {
         list_length: usize,
     ) -> u32;
 }
+
+// what stands before all code; the section is kept although nothing uses it
+#[cfg(pad = "16")]
+std::arch::global_asm!(".section .text.pad,\"axR\",@progbits", ".zero 16");
+#[cfg(pad = "32")]
+std::arch::global_asm!(".section .text.pad,\"axR\",@progbits", ".zero 32");
+#[cfg(pad = "48")]
+std::arch::global_asm!(".section .text.pad,\"axR\",@progbits", ".zero 48");
 
 const LENGTH: usize = 60_000;
 const EVERY_TEXT: usize = 65_535;
