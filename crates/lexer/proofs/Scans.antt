@@ -3,13 +3,13 @@ use mathlib.Core.Path.{_≡_, refl, sym, ap, subst, _∙_}
 use mathlib.Core.Bool.{Bool, true, false, cond, not, false≢true}
 use mathlib.Core.Logic.{⊎-elim}
 use mathlib.Core.List.{List, [], _∷_}
-use Prim.Native.Nat.{ℕ, zero, suc, _+_, _-_, _≤_, _<_}
+use Prim.Native.Nat.{ℕ, zero, suc, _+_, _-_, _≤_, _<_, min}
 use native.Mathlib.Nat.{add-zero}
 use native.Mathlib.Omega.{arith}
 use native.Mathlib.Decide.{decLt}
 use lib.Dec.{T, leb, ltb, leb→le}
 use lib.ListN.{length, take, drop, getD, length-take, length-drop, List·getD-eq-default}
-use lib.Seq.{getD-drop, take-all}
+use lib.Seq.{getD-drop, take-all, drop-drop}
 use borrow.Author.Tests.{eq-eqb, ne-eqb, le-leb, lt-leb, lt-ltb, ltb-true}
 use Rattle.patterns.specs.Bytes.{within, Set, in-set, white, word, run}
 use Rattle.patterns.specs.Patterns.{All}
@@ -45,6 +45,32 @@ module _ {t l : List ℕ} {i : ℕ} (r : Table classOf l) (h : i < length t) (sm
 
   pub word-stop : Passed (in-set word) t i → getD l (getD t i 0) 0 < 0xFE → i ≡ run (in-set word) t
   word-stop p a = passed-stop p h (word-is _ _ small (r .rule _ small) ∙ lt-leb 0xFE _ a)
+
+run-past : (f : ℕ → Bool) (m : ℕ) (s : List ℕ) → m ≤ run f s → run f s ≡ m + run f (drop m s)
+unfolding run
+run-past f zero s h = omega arith
+run-past f (suc m) [] h = absurd (omega arith)
+run-past f (suc m) (b ∷ s) h = go (f b) h (λ k. run-past f m s k)
+  where
+    go : (x : Bool) → suc m ≤ cond x (suc (run f s)) 0 → (m ≤ run f s → run f s ≡ m + run f (drop m s)) → cond x (suc (run f s)) 0 ≡ suc m + run f (drop m s)
+    go true k r = omega (arith, r (omega arith))
+    go false k r = absurd (omega arith)
+
+-- n of the first m bytes from i on, s, pass the test
+module _ {f : ℕ → Bool} {t s : List ℕ} {i n m : ℕ} (p : Passed f t i) (q : s ≡ drop i t) (e : n ≡ min (run f s) m) where
+  pub some-pass : n < m → i + n ≡ run f t
+  some-pass h = omega (arith, p .so-far, ap (run f) q)
+
+  pub rest-passes : length s ≤ m → i + n ≡ run f t
+  rest-passes h = omega (arith, p .so-far, ap (run f) q, run-within f s)
+
+  pub all-pass : m ≤ n → Passed f t (i + m)
+  all-pass h =
+      let k : m ≤ run f (drop i t) = omega (arith, ap (run f) q) in
+      record {
+        within = omega (arith, run-within f (drop i t), length-drop i t, p .within);
+        so-far = omega (arith, p .so-far, run-past f m (drop i t) k, ap (run f) (drop-drop m i t));
+      }
 
 -- ---- sixteen bytes at a time
 module _ {x : Bool} {b : ℕ} where

@@ -7,7 +7,7 @@ use tables::token_type;
 use utf8::char_len;
 ghost use mathlib.Core.Path.{_≡_};
 ghost use mathlib.Core.List.{[], _∷_};
-ghost use Prim.Native.Nat.{_+_, _*_, _%_, _≤_, _<_};
+ghost use Prim.Native.Nat.{_+_, _*_, _%_, _≤_, _<_, min};
 ghost use lib.ListN.{length};
 ghost use Rattle.patterns.specs.Bytes.{within, in-set, word, run};
 ghost use Rattle.lexer.specs.Classes.{classOf, nextOf, pairOf, Table, KeyTable};
@@ -24,37 +24,36 @@ pub enum Found {
     NotUtf8,
 }
 
-// How many bytes from the start are letters, digits or `_`: a name's or a numeral's size. Four at a time while there are four.
+// How many of the first m bytes are letters, digits or `_`, up to one that is none.
+fn word_within(t: &[u8], m: usize, classes: &[u8; 256]) -> usize
+    requires { ⌜ m ≤ length (now t) ⌝ }
+    requires { ⌜ Table classOf (now classes) ⌝ }
+    ensures { λ r. ⌜ r ≡ min (run (in-set word) (now (t .entry))) m ⌝ }
+{
+    let mut n = 0;
+    while n < m {
+        if classes[t[n] as usize] < LETTER {
+            return n;
+        }
+        n += 1;
+    }
+    n
+}
+
+// How many bytes from the start are such: a name's or a numeral's size. LLVM unrolls the loop over four.
 fn word_run(t: &[u8], classes: &[u8; 256]) -> usize
     requires { ⌜ Table classOf (now classes) ⌝ }
     ensures { λ r. ⌜ r ≡ run (in-set word) (now (t .entry)) ⌝ }
 {
     let mut i = 0;
     while t.len() - i >= 4 {
-        if classes[t[i] as usize] < LETTER {
-            return i;
+        let n = word_within(&t[i..], 4, classes);
+        if n < 4 {
+            return i + n;
         }
-        let j = i + 1;
-        if classes[t[j] as usize] < LETTER {
-            return j;
-        }
-        let k = j + 1;
-        if classes[t[k] as usize] < LETTER {
-            return k;
-        }
-        let l = k + 1;
-        if classes[t[l] as usize] < LETTER {
-            return l;
-        }
-        i = l + 1;
+        i += 4;
     }
-    while i < t.len() {
-        if classes[t[i] as usize] < LETTER {
-            return i;
-        }
-        i += 1;
-    }
-    i
+    i + word_within(&t[i..], t.len() - i, classes)
 }
 
 // Still all ASCII characters other than LF, with one byte more.

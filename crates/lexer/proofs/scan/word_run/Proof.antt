@@ -1,10 +1,10 @@
-use Prim.Native.Nat.{_+_, _-_}
+use Prim.Native.Nat.{_-_}
 use native.Mathlib.Omega.{arith}
 use borrow.Author.Needs.{needs}
-use lib.ListN.{length}
+use lib.ListN.{length, length-take, length-drop}
 use Rattle.patterns.specs.Bytes.{in-set, word}
-use Rattle.patterns.proofs.Runs.{Passed, passed-none, passed-end}
-use Rattle.lexer.proofs.Scans.{word-more, word-stop}
+use Rattle.patterns.proofs.Runs.{Passed, passed-none, rest-is}
+use Rattle.lexer.proofs.Scans.{some-pass, rest-passes, all-pass}
 use Rattle.lexer.proofs.scan.word_run.Statement.{statement}
 use Rattle.lexer.proofs.scan.word_run.Tie as tie
 
@@ -14,59 +14,28 @@ Inv-loop t classes i₀ i = Passed (in-set word) t i
 abbrev μ-loop : tie.MeasureT-loop
 μ-loop t classes i₀ i = length t - i
 
-abbrev Inv-loop2 : tie.InvT-loop2
-Inv-loop2 t classes i₀ i = Passed (in-set word) t i
-
-abbrev μ-loop2 : tie.MeasureT-loop2
-μ-loop2 t classes i₀ i = length t - i
-
--- past the first, the second, the third and the fourth byte of four
-first : (c : tie.Else1 Inv-loop μ-loop Inv-loop2 μ-loop2) → Passed (in-set word) (c .before .before .before .before .before .args .t .now) (c .before .before .before .before .loop .i + 1)
-first c = let k = c .before .before in word-more (k .before .before .before .pre) (omega arith) (k .shared-slice-known .given _ .fits) (k .before .before .loop .inv) (c .if1 .left)
-
-second : (c : tie.Else2 Inv-loop μ-loop Inv-loop2 μ-loop2) → Passed (in-set word) (c .before .before .before .before .before .before .before .before .args .t .now) (c .before .before .before .before .before .before .before .loop .i + 1 + 1)
-second c = let k = c .before .before in word-more (k .before .before .before .before .before .before .pre) (omega arith) (k .shared-slice-known2 .given _ .fits) (first (k .before)) (c .if2 .left)
-
-third : (c : tie.Else3 Inv-loop μ-loop Inv-loop2 μ-loop2) → Passed (in-set word) (c .before .before .before .before .before .before .before .before .before .before .before .args .t .now) (c .before .before .before .before .before .before .before .before .before .before .loop .i + 1 + 1 + 1)
-third c = let k = c .before .before in word-more (k .before .before .before .before .before .before .before .before .before .pre) (omega arith) (k .shared-slice-known3 .given _ .fits) (second (k .before)) (c .if3 .left)
-
-fourth : (c : tie.Else4 Inv-loop μ-loop Inv-loop2 μ-loop2) → Passed (in-set word) (c .before .before .before .before .before .before .before .before .before .before .before .before .before .before .args .t .now) (c .before .before .before .before .before .before .before .before .before .before .before .before .before .loop .i + 1 + 1 + 1 + 1)
-fourth c = let k = c .before .before in word-more (k .before .before .before .before .before .before .before .before .before .before .before .before .pre) (omega arith) (k .shared-slice-known4 .given _ .fits) (third (k .before)) (c .if4 .left)
-
 pub word-run-spec : {M : Type 1} → statement M
 word-run-spec =
     tie.close
-    (tie.spec Inv-loop μ-loop Inv-loop2 μ-loop2
+    (tie.spec Inv-loop μ-loop
     (λ c. passed-none)
     (λ c. c .loop .inv .within)
-    (λ c. search needs)
-    (λ c. omega (arith, c .shared-slice-known .given (c .before .before .loop .i)))
-    (λ c. c .shared-slice-known .given _ .fits)
-    (λ c. let k = c .before .before in word-stop (k .before .before .before .pre) (omega arith) (k .shared-slice-known .given _ .fits) (k .before .before .loop .inv) (c .if1 .taken))
+    (λ c. c .before .loop .inv .within)
     (λ c. search needs)
     (λ c. search needs)
-    (λ c. omega (arith, c .shared-slice-known2 .given (c .before .before .before .before .before .loop .i + 1)))
-    (λ c. c .shared-slice-known2 .given _ .fits)
-    (λ c. let k = c .before .before in word-stop (k .before .before .before .before .before .before .pre) (omega arith) (k .shared-slice-known2 .given _ .fits) (first (k .before)) (c .if2 .taken))
+    (λ c κs. (simp (length-take, length-drop) (omega arith), search))
+    (λ c. omega (arith, c .before .before .before .before .loop .inv .within, c .before .before .before .before .before .before .good))
+    (λ c. some-pass (c .before .before .before .before .loop .inv) (rest-is (c .before .before .before .before .before .before .args .t .now) (c .before .before .before .before .loop .i)) (c .before .word-within .ensures) (c .if1 .taken))
+    (λ c. omega (arith, c .before .before .before .loop-test, c .before .before .before .before .before .before .good))
+    (λ c. omega (arith, c .before .before .before .loop-test))
+    (λ c. all-pass (c .before .before .before .before .loop .inv) (rest-is (c .before .before .before .before .before .before .args .t .now) (c .before .before .before .before .loop .i)) (c .before .word-within .ensures) (c .if1 .left))
+    (λ c. c .before .loop .inv .within)
     (λ c. search needs)
     (λ c. search needs)
-    (λ c. omega (arith, c .shared-slice-known3 .given (c .before .before .before .before .before .before .before .before .loop .i + 1 + 1)))
-    (λ c. c .shared-slice-known3 .given _ .fits)
-    (λ c. let k = c .before .before in word-stop (k .before .before .before .before .before .before .before .before .before .pre) (omega arith) (k .shared-slice-known3 .given _ .fits) (second (k .before)) (c .if3 .taken))
-    (λ c. search needs)
-    (λ c. search needs)
-    (λ c. omega (arith, c .shared-slice-known4 .given (c .before .before .before .before .before .before .before .before .before .before .before .loop .i + 1 + 1 + 1)))
-    (λ c. c .shared-slice-known4 .given _ .fits)
-    (λ c. let k = c .before .before in word-stop (k .before .before .before .before .before .before .before .before .before .before .before .before .pre) (omega arith) (k .shared-slice-known4 .given _ .fits) (third (k .before)) (c .if4 .taken))
-    (λ c. search needs)
-    (λ c. search needs)
-    (λ c. fourth c)
-    (λ c. c .before .loop .inv)
-    (λ c. search needs)
-    (λ c. omega (arith, c .shared-slice-known5 .given (c .before .before .loop2 .i)))
-    (λ c. c .shared-slice-known5 .given _ .fits)
-    (λ c. let k = c .before .before in word-stop (k .before .before .before .before .before .pre) (omega arith) (k .shared-slice-known5 .given _ .fits) (k .before .before .loop2 .inv) (c .if5 .taken))
-    (λ c. search needs)
-    (λ c. search needs)
-    (λ c. let k = c .before .before in word-more (k .before .before .before .before .before .pre) (omega arith) (k .shared-slice-known5 .given _ .fits) (k .before .before .loop2 .inv) (c .if5 .left))
-    (λ c. search (needs, passed-end)))
+    (λ c. c .before .before .loop .inv .within)
+    (λ c κs. (simp (length-take, length-drop) (omega arith), search))
+    (λ c. omega (arith, c .word-within2 .ensures, c .before .before .before .loop .inv .within, c .before .before .before .before .before .good))
+    (λ c.
+    let t = c .before .before .before .before .before .args .t .now in
+    let i = c .before .before .before .loop .i in
+    rest-passes {m = length t - i} (c .before .before .before .loop .inv) (rest-is t i) (c .word-within2 .ensures) (simp (length-take, length-drop) (omega arith))))
