@@ -184,34 +184,13 @@ module _ {text a₀ b₀ : List ℕ} where
         → Lexes at (drop at text) (tokens i at (at + n) us) (errors i at (at + n) gs)
     lexes-on {n} {i} st e us gs l = step n i (rw e at st) (subst (λ (s : List ℕ). Lexes (at + n) s us gs) (sym (drop-drop n at text)) l)
 
-    pub going-skipped : {s : List ℕ} {i : declared.Item} {n : ℕ} → Stepped s i → s ≡ drop at text → i ≡ Item.Skipped n → Going text a₀ b₀ a b (at + n) nt nu nd
-    going-skipped {s} {i} {n} w e q = go (subst (Stepped s) q w)
-      where
-        go : Stepped s (Item.Skipped n) → Going text a₀ b₀ a b (at + n) nt nu nd
-        go (Stepped.skipped st r) =
-            record {
-              short = g .short;
-              inside = stepped-turn (Stepped.skipped st r) e .1;
-              rest = rest-more (g .rest) (rw e at r);
-              few-tokens = omega (arith, g .few-tokens);
-              few-unknown = omega (arith, g .few-unknown);
-              few-errors = omega (arith, g .few-errors);
-              ts = g .ts;
-              ds = g .ds;
-              token-count = g .token-count;
-              unknown-count = g .unknown-count;
-              error-count = g .error-count;
-              token-table = g .token-table;
-              error-table = g .error-table;
-              goes-on = λ us gs l. g .goes-on us gs (lexes-on st e us gs l);
-            }
-
-    pub going-white : at < length text → in-set white (getD text at 0) ≡ true → Going text a₀ b₀ a b (at + 1) nt nu nd
-    going-white h w =
+    -- nothing is put down on the way to the place m
+    going-past : {m : ℕ} → at ≤ m → m ≤ length text → Rest text m → ((us : List Token) (gs : List Diagnostic) → Lexes m (drop m text) us gs → Lexes at (drop at text) us gs) → Going text a₀ b₀ a b m nt nu nd
+    going-past h k r f =
         record {
           short = g .short;
-          inside = omega arith;
-          rest = next-ascii (g .rest) h (white-ascii _ w);
+          inside = k;
+          rest = r;
           few-tokens = omega (arith, g .few-tokens);
           few-unknown = omega (arith, g .few-unknown);
           few-errors = omega (arith, g .few-errors);
@@ -222,8 +201,19 @@ module _ {text a₀ b₀ : List ℕ} where
           error-count = g .error-count;
           token-table = g .token-table;
           error-table = g .error-table;
-          goes-on = λ us gs l. g .goes-on us gs (rw (drop-cons text at 0 h) (white-on w (subst (λ (k : ℕ). Lexes (at + 1) (drop k text) us gs) (add-one at) l)));
+          goes-on = λ us gs l. g .goes-on us gs (f us gs l);
         }
+
+    pub going-skipped : {s : List ℕ} {i : declared.Item} {n : ℕ} → Stepped s i → s ≡ drop at text → i ≡ Item.Skipped n → Going text a₀ b₀ a b (at + n) nt nu nd
+    going-skipped {s} {i} {n} w e q = go (subst (Stepped s) q w)
+      where
+        go : Stepped s (Item.Skipped n) → Going text a₀ b₀ a b (at + n) nt nu nd
+        go (Stepped.skipped st r) = going-past (omega arith) (stepped-turn (Stepped.skipped st r) e .1) (rest-more (g .rest) (rw e at r)) (lexes-on st e)
+
+    pub going-white : at < length text → in-set white (getD text at 0) ≡ true → Going text a₀ b₀ a b (at + 1) nt nu nd
+    going-white h w =
+        going-past (omega arith) (omega arith) (next-ascii (g .rest) h (white-ascii _ w))
+        (λ us gs l. rw (drop-cons text at 0 h) (white-on w (subst (λ (k : ℕ). Lexes (at + 1) (drop k text) us gs) (add-one at) l)))
 
     -- any token
     going-more : {s a′ : List ℕ} {n k x y v mu : ℕ} → Step s n (token k x y v) → Rest s n → s ≡ drop at text → mu ≡ nu + cond (eqb k 1 && eqb x 3) 1 0
