@@ -54,7 +54,7 @@ fn unknown_suffixes(tokens: &[u8], diagnostics: &mut [u8]) -> usize
     count
 }
 
-// Reads the tokens of a text, which are all that the table has, into the node table. So many are numerals with an unknown suffix: they are looked for if there are any.
+// Reads the tokens of a text, which are all that the table has, into the node table. `unknown` of them are numerals with an unknown suffix, which are looked for only if there are any.
 pub(crate) fn read_tokens(
     text: &[u8],
     tokens: &[u8],
