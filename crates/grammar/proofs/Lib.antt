@@ -16,6 +16,7 @@ pub mod Spans
 pub mod Bases
 pub mod Fits
 pub mod Few
+pub mod Taken
 pub mod Eval
 pub mod Verdict
 pub mod Edge

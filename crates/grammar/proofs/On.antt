@@ -1,12 +1,13 @@
 -- What holds of the state derived, if there is one.
 -- Assumes nothing.
 use Prim.Native.Nat.{ℕ, zero, suc, _≤_, _<_}
-use mathlib.Core.Path.{_≡_, refl}
+use mathlib.Core.Path.{_≡_, refl, subst}
 use mathlib.Core.Bool.{Bool, true, false, cond}
 use mathlib.Core.List.{List, [], _∷_}
 use native.Mathlib.Omega.{arith}
 use lib.Dec.{eqb}
 use lib.ListN.{length, getD}
+use borrow.Author.Tests.{eqb-true}
 use Rattle.grammar.specs.Derive.{Token, Input, token, S, Out, got, none, agree, part, leave}
 
 pub data On (P : S → Type 0) : Out → Type 0 where
@@ -30,6 +31,14 @@ on-agree (got a) off = off
 on-agree none off = off
 on-agree (got a) (on {t = b} p) = on-if (eqb (a .at) (b .at)) (λ e. on p)
 on-agree none (on p) = off
+
+-- what an agreement derives stands where its first does
+pub on-first : {o : Out} (P : ℕ → Type 0) (q : Out) → On (λ t. P (t .at)) o → On (λ t. P (t .at)) (agree o q)
+unfolding agree
+on-first P (got b) off = off
+on-first P none off = off
+on-first P (got b) (on {t = a} p) = on-if (eqb (a .at) (b .at)) (λ e. on (subst P (eqb-true (a .at) (b .at) e) p))
+on-first P none (on p) = off
 
 -- the state t of a rule read from s, seen from outside
 abbrev pub left : S → S → S

@@ -1,6 +1,7 @@
 -- A derivation never goes back, and a grammar that eats takes a token: told by a test on the grammar, given one on each rule.
 -- Assumes nothing.
 use Prim.Native.Nat.{ℕ, zero, suc, _≤_, _<_}
+use mathlib.Core.Path.{_≡_, refl}
 use mathlib.Core.Bool.{Bool, true, false, not, _&&_, _||_}
 use native.Mathlib.Omega.{arith}
 use native.Mathlib.Nat.{le-refl, le-trans}
@@ -17,18 +18,19 @@ use Rattle.grammar.proofs.On.{On, off, on, on-of, on-map, on-if, on-agr
 abbrev pub Past : ℕ → S → Type 0
 Past i t = i ≤ t .at
 
-past-act : (x : Input) (a : Act) (t : Token) (s : S) → On (Past (s .at)) (act x a t s)
-past-act x skip t s = on (le-refl _)
-past-act x (leaf k v) t s = on (le-refl _)
-past-act x named t s = on (le-refl _)
-past-act x literal t s = on (le-refl _)
-past-act x count t s = on-if (eqb (t .suffix) 0) (λ e. on (le-refl _))
-past-act x index t s = on-if (eqb (t .suffix) 0) (λ e. on (le-refl _))
-past-act x (mark m) t s = on (le-refl _)
+-- what becomes of a token moves nothing
+pub stays : (x : Input) (a : Act) (t : Token) (s : S) → On (λ u. u .at ≡ s .at) (act x a t s)
+stays x skip t s = on refl
+stays x (leaf k v) t s = on refl
+stays x named t s = on refl
+stays x literal t s = on refl
+stays x count t s = on-if (eqb (t .suffix) 0) (λ e. on refl)
+stays x index t s = on-if (eqb (t .suffix) 0) (λ e. on refl)
+stays x (mark m) t s = on refl
 
 past-run : (x : Input) (p : Step) (s : S) → On (Past (s .at)) (yields x p s)
 unfolding yields
-past-run x (take k a) s = on-if (eqb (token x (s .at) .kind) k) (λ e. on-map (λ t l. omega arith) (past-act x a (token x (s .at)) (next s)))
+past-run x (take k a) s = on-if (eqb (token x (s .at) .kind) k) (λ e. on-map (λ t l. omega arith) (stays x a (token x (s .at)) (next s)))
 past-run x (close k a b) s = on (le-refl _)
 past-run x tick s = on (le-refl _)
 past-run x alone s = on-if (eqb (s .frame .parts) 1) (λ e. on (le-refl _))
@@ -114,7 +116,7 @@ module _ (b : R → G) (x : Input) (σ : R → Bool) (eating : (r : R) → T (σ
   ate-run (take k a) s t z =
       on-if
       (eqb (token x (s .at) .kind) k)
-      (λ e. on-map (λ u l. (l, is-token x (s .at) k (eqb-true (token x (s .at) .kind) k e) (wanted k z))) (past-act x a (token x (s .at)) (next s)))
+      (λ e. on-map (λ u l. (omega arith, is-token x (s .at) k (eqb-true (token x (s .at) .kind) k e) (wanted k z))) (stays x a (token x (s .at)) (next s)))
   ate-run (close k a c) s t z = absurd t
   ate-run tick s t z = absurd t
   ate-run alone s t z = absurd t

@@ -8,7 +8,7 @@ use native.Mathlib.Omega.{arith}
 use lib.Dec.{T}
 use lib.ListN.{length}
 use Rattle.grammar.specs.Derive.{Token, Node, Input, R, type, alloc, pattern, expr, stmt, unary, initLet, initAction, forStep, param, unit, item, level, G, rule, S, Out, Derives}
-use Rattle.grammar.specs.Grammar.{body, file, Tree}
+use Rattle.grammar.specs.Grammar.{body, file, Tree, Stops}
 use Rattle.patterns.proofs.Tests.{implies, modus}
 use Rattle.grammar.proofs.Bodies.{every}
 use Rattle.grammar.proofs.Unique.{unique, same}
@@ -91,3 +91,10 @@ pub tree-one : {x : Input} {ns ms : List Node} {ds es : List Token} → Tree x n
 tree-one a b =
     let e = same (unique (a .derived) (b .derived)) in
     (sym (a .these) ∙ ap (λ (s : S). s .nodes) e ∙ b .these, sym (a .unknowns) ∙ ap (λ (s : S). s .unknown) e ∙ b .unknowns)
+
+-- and at most one token is the first that no attempt takes
+pub stops-one : {x : Input} {i j : ℕ} → Stops x i → Stops x j → i ≡ j
+stops-one {i = i} {j} a b =
+    let p : i < j → ⊥ = λ l. let (n, t) = b .taken i l in a .untaken n t in
+    let q : j < i → ⊥ = λ l. let (n, t) = a .taken j l in b .untaken n t in
+    omega arith

@@ -333,3 +333,8 @@ pub record Deep (x : Input) : Type 0 where
   pub nest : ℕ
   pub above : 64 < nest
   pub takes : Takes body x nests token nest file 0 begin
+
+-- the token i is the first that no attempt takes: every token before it is taken by some attempt, and it is not
+pub record Stops (x : Input) (i : ℕ) : Type 0 where
+  pub taken : (j : ℕ) → j < i → (n : ℕ) × Takes body x nests j n file 0 begin
+  pub untaken : (n : ℕ) → Takes body x nests i n file 0 begin → ⊥
