@@ -57,19 +57,21 @@ enum cairo_m_outcome {
     CAIRO_M_TOKEN_ROOM = 4,   // more tokens than the token table has entries; the token count says how many
     CAIRO_M_NEST = 5,         // an attempt takes a token at nest above 64
     CAIRO_M_NODE_ROOM = 6,    // more nodes than the node table has entries; the node count says how many
-    CAIRO_M_SYNTAX = 7,       // the grammar does not derive all tokens
+    CAIRO_M_SYNTAX = 7,       // the grammar does not derive all tokens: one diagnostic, with reason 5, has where reading stopped
     CAIRO_M_SUFFIX = 8,       // literals with an unknown suffix: the diagnostics have them, with reason 4
     CAIRO_M_SPELLING = 9,     // numeral entry alone: not the spelling of a numeral
     CAIRO_M_OUTPUT_ROOM = 10, // listing alone: the JSON is longer than the bytes lent for it
     CAIRO_M_KIND = 11         // listing alone: a node's kind is not one of 1 to 42
 };
 
-// The reason of a diagnostic. Its span is the whole character or the whole numeral.
+// The reason of a diagnostic. Its span is the whole character or the whole numeral; with reason 5 it is the token, or empty at the
+// end of the text, start and end being its length, if all tokens were taken.
 enum cairo_m_reason {
     CAIRO_M_REASON_CHARACTER = 1, // a character that begins no token
     CAIRO_M_REASON_OVERFLOW = 2,  // a numeral above 18446744073709551615
     CAIRO_M_REASON_FORMAT = 3,    // a numeral that is not well formed
-    CAIRO_M_REASON_SUFFIX = 4     // a literal with a suffix other than felt and u32
+    CAIRO_M_REASON_SUFFIX = 4,    // a literal with a suffix other than felt and u32
+    CAIRO_M_REASON_STOP = 5       // the first token that no attempt of the grammar took, even of those that failed in the end
 };
 
 // The suffix of a numeral.
@@ -296,12 +298,13 @@ uint32_t cairo_m_lex(const void *text, size_t length, void *tokens, size_t token
 
 // A text from bytes to nodes. The outcome is one of 0 to 8.
 // With outcome 0 the token table has the tokens and the node table the tree; with any other both are all zero. The diagnostic table
-// has the errors in text order with outcomes 3 and 8, as many as it has entries for, else it is all zero.
+// has the errors in text order with outcomes 3 and 8, as many as it has entries for, and with outcome 7 the one diagnostic of where
+// reading stopped, if it has an entry; else it is all zero.
 // The token count is that of all tokens with outcomes 0 and 4, the node count that of all nodes with outcomes 0 and 6, the
-// diagnostic count that of all errors with outcomes 3 and 8; any other count is 0.
+// diagnostic count that of all errors with outcomes 3 and 8, and 1 with outcome 7; any other count is 0.
 // Record i of the list is entry i of the diagnostic table, and zero where the table has none.
 // Tables that take every text: as many entries each as the text has bytes, so CAIRO_M_LONGEST_TEXT. A text has no more tokens, and
-// no more errors, than bytes, and a tree no more nodes than its text has tokens.
+// no more diagnostics, than bytes, and a tree no more nodes than its text has tokens.
 uint32_t cairo_m_read(const void *text, size_t length, void *tokens, size_t tokens_size, void *nodes, size_t nodes_size,
                       void *diagnostics, size_t diagnostics_size, size_t *token_count, size_t *node_count, size_t *diagnostic_count,
                       cairo_m_record *list, size_t list_length);

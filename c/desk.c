@@ -3,7 +3,8 @@
 //     desk FILE..
 //
 // For each file, or standard input for `-`, it prints the verdict; the errors with line and column, both from 1, where a line ends
-// with LF and a column is a character; and for an accepted text the tree, each parent before its children, two spaces for a level.
+// with LF and a column is a character; where reading stopped, that line too, with carets under the token; and for an accepted text
+// the tree, each parent before its children, two spaces for a level.
 // Exit status: 0 all are accepted, 1 some text is refused, 2 a file could not be read.
 #include <errno.h>
 #include <stdbool.h>
@@ -21,8 +22,8 @@ enum { LAST_INDENT = 40 };
 // At the start; a text that needs more entries is read again with as many as the counts say.
 enum { FIRST_ROOM = 1024 };
 
-// As much of a numeral as is shown.
-enum { SHOWN = 40 };
+// As much of a numeral or another token as is shown, and of a line before and from the place where reading stopped, in characters.
+enum { SHOWN = 40, SHOWN_BESIDE = 60 };
 
 static const char *const outcome_words[] = {
     "accepted", "long", "encoding", "lexical", "token room", "nest", "node room", "syntax", "suffix",
@@ -157,10 +158,52 @@ static void print_error(const struct reading *r, const cairo_m_diagnostic *d) {
     case CAIRO_M_REASON_SUFFIX:
         printf("the numeral %.*s%s has an unknown suffix", shown, (const char *)part, more);
         break;
+    case CAIRO_M_REASON_STOP:
+        if (length == 0)
+            fputs("reading stopped: the text ends here", stdout);
+        else
+            printf("reading stopped at %.*s%s", shown, (const char *)part, more);
+        break;
     default:
         printf("reason %u", d->reason);
     }
     printf(" (bytes %u..%u)\n", d->start, d->end);
+}
+
+static bool begins_character(unsigned char byte) { return (byte & 0xC0) != 0x80; }
+
+static bool is_white(unsigned char byte) { return byte == ' ' || byte == '\t' || byte == '\r' || byte == '\n'; }
+
+// Where an error is shown. The end of a text is shown behind the last character that is not white space.
+static size_t place_of(const struct reading *r, const cairo_m_diagnostic *d) {
+    size_t at = d->start;
+    while (d->start == d->end && at > 0 && is_white(r->text[at - 1]))
+        at--;
+    return at;
+}
+
+// The line around a place, and carets under so many characters from there on, at least one. `..` stands for what is left out of a
+// long line, and `?` for a control character, which only a comment can have.
+static void print_line(const struct reading *r, size_t place, size_t width) {
+    size_t start = place, end = place, before = 0, after = 0;
+    while (start > 0 && r->text[start - 1] != '\n' && before < SHOWN_BESIDE)
+        before += begins_character(r->text[--start]);
+    while (end < r->length && r->text[end] != '\n' && (after < SHOWN_BESIDE || !begins_character(r->text[end])))
+        after += begins_character(r->text[end++]);
+    bool cut_before = start > 0 && r->text[start - 1] != '\n', cut_after = end < r->length && r->text[end] != '\n';
+    if (!cut_after && end > place && r->text[end - 1] == '\r')
+        end--;
+    fputs(cut_before ? "  .." : "  ", stdout);
+    for (size_t i = start; i < end; i++)
+        putchar((r->text[i] < ' ' && r->text[i] != '\t') || r->text[i] == 0x7F ? '?' : r->text[i]);
+    puts(cut_after ? ".." : "");
+    fputs(cut_before ? "    " : "  ", stdout);
+    for (size_t i = start; i < place; i++)
+        if (begins_character(r->text[i]))
+            putchar(r->text[i] == '\t' ? '\t' : ' ');
+    for (size_t i = 0; i == 0 || (i < width && place + i < end); i++)
+        putchar('^');
+    putchar('\n');
 }
 
 // The errors are in text order, so that the text is gone through once. A column counts the first bytes of characters.
@@ -168,16 +211,19 @@ static void print_errors(const struct reading *r, const char *name) {
     size_t at = 0, line = 1, column = 1;
     for (size_t i = 0; i < r->diagnostic_count; i++) {
         const cairo_m_diagnostic *d = &r->diagnostics[i];
-        for (; at < d->start; at++) {
+        size_t place = place_of(r, d);
+        for (; at < place; at++) {
             if (r->text[at] == '\n') {
                 line++;
                 column = 1;
-            } else if ((r->text[at] & 0xC0) != 0x80) {
+            } else if (begins_character(r->text[at])) {
                 column++;
             }
         }
         printf("%s:%zu:%zu: ", name, line, column);
         print_error(r, d);
+        if (d->reason == CAIRO_M_REASON_STOP)
+            print_line(r, place, d->end - d->start);
     }
 }
 
@@ -286,6 +332,7 @@ static void print_reading(const struct reading *r, const char *name) {
         break;
     case CAIRO_M_SYNTAX:
         puts("no derivation of all tokens");
+        print_errors(r, name);
         break;
     default:
         puts("not an outcome of a reading with room for all");

@@ -2,8 +2,8 @@
 """The cases of tests/reading, and the answers that are owed by the reading from bytes to nodes and by the listing.
 
 The answers are worked out from 01-scope.md, lexer.rs and parser.rs, never from what the crates print: tokens by the model of
-expected.py, trees by the model of reading_grammar.py. Both models have to agree with every tree and refusal that was written
-down by hand in parser_expected.py, and with the outcomes that 01 names, or nothing is written.
+expected.py, trees by the model of reading_grammar.py. Both models have to agree with every tree, and every refusal and place
+where it stops, that was written down by hand in parser_expected.py, and with the outcomes that 01 names, or nothing is written.
 
   reading_expected.py              write tests/reading/cases and tests/reading/owed
   reading_expected.py --check      say whether the files on disk are what would be written; exit 1 if not
@@ -54,7 +54,7 @@ SPELLED = ("Name", "Named", "Identifier")
 
 ACCEPTED, LONG, ENCODING, LEXICAL, TOKEN_ROOM, NEST, NODE_ROOM, SYNTAX, SUFFIX = range(9)
 OUTPUT_ROOM, KIND = 10, 11
-UNKNOWN_SUFFIX = 4
+UNKNOWN_SUFFIX, STOP = 4, 5
 
 # ---- the reading
 
@@ -89,14 +89,14 @@ class Text:
         """(outcome 0, 5, 7 or 8, nodes, diagnostics), whatever the room."""
         if self.parsed is None:
             try:
-                found = reading_grammar.parse(self.bytes, self.tokens)
+                nodes, found = reading_grammar.parse(self.bytes, self.tokens)
             except reading_grammar.Deep:
                 self.parsed = NEST, [], []
             else:
-                if found is None:
-                    self.parsed = SYNTAX, [], []
+                if nodes is None:
+                    self.parsed = SYNTAX, [], [self.stop(found)]
                 else:
-                    nodes, unknown = found
+                    unknown = found
                     parser_expected.roots(nodes)
                     if len(nodes) > len(self.tokens):
                         raise SystemExit(f"reading_expected.py: {self.bytes!r} has more nodes than tokens")
@@ -104,6 +104,11 @@ class Text:
                         raise SystemExit(f"reading_expected.py: the errors of {self.bytes!r} are not in text order")
                     self.parsed = SUFFIX if unknown else ACCEPTED, nodes, [(*span, UNKNOWN_SUFFIX) for span in unknown]
         return self.parsed
+
+    def stop(self, at):
+        """The span of the token at this place, or an empty one at the end of the text."""
+        start, end = self.tokens[at][2:4] if at < len(self.tokens) else (len(self.bytes),) * 2
+        return start, end, STOP
 
     def read(self, token_bytes, node_bytes, diagnostic_bytes):
         """01's order: 1, 2, 3, 4, 5, 7, 8, 6."""
@@ -114,11 +119,11 @@ class Text:
             return refused(LEXICAL, self.errors, room)
         if len(self.tokens) > token_bytes // 16:
             return Answer(TOKEN_ROOM, token_count=len(self.tokens))
-        outcome, nodes, unknown = self.nodes()
-        if outcome in (NEST, SYNTAX):
+        outcome, nodes, errors = self.nodes()
+        if outcome == NEST:
             return Answer(outcome)
-        if outcome == SUFFIX:
-            return refused(SUFFIX, unknown, room)
+        if outcome in (SYNTAX, SUFFIX):
+            return refused(outcome, errors, room)
         if len(nodes) > node_bytes // 16:
             return Answer(NODE_ROOM, node_count=len(nodes))
         return Answer(ACCEPTED, self.tokens, nodes, (), len(self.tokens), len(nodes), 0)
@@ -129,8 +134,8 @@ class Text:
             return 0, 0, 0
         if self.errors:
             return 0, 0, 8 * len(self.errors)
-        outcome, nodes, unknown = self.nodes()
-        return 16 * len(self.tokens), 16 * len(nodes), 8 * len(unknown)
+        outcome, nodes, errors = self.nodes()
+        return 16 * len(self.tokens), 16 * len(nodes), 8 * len(errors)
 
 
 def spelling(text, kind, start, end):
@@ -295,36 +300,51 @@ class Cases(expected.Cases):
 
 
 class Held(parser_expected.Cases):
-    """The texts of parser_expected.py, each with the tree or the refusal that was written down for it."""
+    """The cases of parser_expected.py: the model has to say of each what was written down for it."""
 
     def __init__(self):
         super().__init__()
         self.texts = {}
 
-    def tree(self, text, nodes, node_bytes=0, rest=0):
-        super().tree(text, nodes)
-        self.texts[text] = list(nodes)
-
-    def refused(self, text, answer, node_bytes=0):
-        super().refused(text, answer)
-        self.texts[text] = answer
+    def case(self, text, tokens, answer, nodes=(), node_bytes=0, rest=0, at=None):
+        super().case(text, tokens, answer, nodes, at=at)
+        try:
+            said = reading_grammar.parse(text.encode(), tokens)
+        except reading_grammar.Deep:
+            said = None, None
+        owed = (list(nodes), said[1]) if answer == parser_expected.TREE else (None, at)
+        if said != owed:
+            raise SystemExit(f"reading_expected.py: {text!r} with tokens {tokens} is {said}, by hand {answer} {owed}")
+        if tokens == Text(text).tokens:
+            self.texts[text] = answer
 
 
 def by_hand():
-    """The texts with the outcome and the nodes that are owed by hand."""
+    """The texts whose answer is written down in parser_expected.py."""
     held = Held()
     parser_expected.all_cases(held)
-    for text, stated in held.texts.items():
+    owed = {parser_expected.TREE: (ACCEPTED, SUFFIX), parser_expected.SYNTAX: (SYNTAX,), parser_expected.DEEP: (NEST,)}
+    for text, answer in held.texts.items():
         model = Text(text)
-        outcome, nodes, _ = model.nodes()
-        owed = {parser_expected.SYNTAX: SYNTAX, parser_expected.DEEP: NEST}.get(stated) if isinstance(stated, str) else None
-        if owed is None and (nodes != stated or outcome not in (ACCEPTED, SUFFIX)) or owed is not None and outcome != owed:
-            raise SystemExit(f"reading_expected.py: {text!r} has outcome {outcome} and nodes {nodes}, by hand {stated}")
+        if model.nodes()[0] not in owed[answer]:
+            raise SystemExit(f"reading_expected.py: {text!r} has outcome {model.nodes()[0]}, by hand {answer}")
         yield model
+    for before, part, after, times in parser_expected.STOPPED_RUNS:
+        marked(f"{before} " + f"{part} " * times + after)
 
 
 def body(text):
     return "fn f() { " + text + " }"
+
+
+def marked(text):
+    """A text with `@` before the first token that no attempt takes, or at its end: the model has to find the same."""
+    before, after = text.split("@")
+    model = Text(before + after)
+    at = sum(start < len(before.encode()) for _, _, start, *_ in model.tokens)
+    if model.nodes() != (SYNTAX, [], [model.stop(at)]):
+        raise SystemExit(f"reading_expected.py: {text[:200]!r} has outcome {model.nodes()[0]} and stops at {model.nodes()[2]}")
+    return model
 
 
 PARENS = [Text("const A = ", ("(", n), "1", (")", n), ";") for n in (63, 64)]
@@ -358,7 +378,7 @@ def stated_cases(cases):
 
 ROOM_TEXTS = [
     "", "use m;", "const A = 1;", body("if a [12u8, 1];"), body("12u8; 1x; [2_, 0b1y];"), "@ 1felt2 a \u00e9 99999999999999999999 0b12",
-    "fn f(a: felt, b: T*) { let (c, d): (felt, T) = (a, b); while c == 1 { c = -c as u32; } }", body("if x {}"), PARENS[0], PARENS[1],
+    "fn f(a: felt, b: T*) { let (c, d): (felt, T) = (a, b); while c == 1 { c = -c as u32; } }", body("if x {}"), "fn f() { a; // \u00e9\n", PARENS[0], PARENS[1],
     b"a \xff", Text(("@", 3), (" ", 65533)),
 ]
 
@@ -401,6 +421,63 @@ def order_cases(cases):
         cases.read(text, max(0, tokens - 16), nodes, diagnostics)
         cases.read(text, 0, 0, 0)
         cases.read(text, 0, 0, 64, 3)
+
+
+# ---- where reading stops
+
+# The spans, counted in the texts.
+COUNTED_STOPS = [
+    (body("if x {}"), 17, 18), (body("let (a) = b;"), 15, 16), (body("[1; 3u32];"), 18, 19), (body("if (a) == (b) {}"), 16, 18),
+    ("const A = t.0u32;", 16, 17), ("const A: [T; 3u32] = 1;", 17, 18), ("x", 0, 1), (" \n\treturn;", 3, 9), ("const A = 1", 11, 11),
+    ("const A = 1 \n", 13, 13), ("const A = 1 // \u00e9\n", 18, 18), ("// \u20ac\nconst A = 1 in;", 19, 21), ("fn f() {\r\n}\r\nin", 13, 15),
+]
+
+# White space and comments around the place, with characters of two, three and four bytes.
+MARKED_STOPS = [
+    "// \u00e9\n@x", "/// \u20ac \U0001f3ac\n\t@1", "const A = 1; // \u00e9\n@;", "const A // \u20ac\n = // \U0001f3ac\n @;", "fn f() { // \u00e9@",
+    "fn f() {\n@", "fn f() { \t\r\n@", "fn f() { a; } // \u20ac\nfn g() { b // \u00e9\n  @} // \U0001f3ac", "use a:: // \u00e9\n\n\n@", "use a:: // \u00e9\n\n\n@5 // ",
+    "const A = t // \u00e9\n . 0u32 // \u20ac\n @; // \u00e9", "const A = [1; 3u32] // \u20ac\u20ac\n@;", "const A: [T; 3u32 // \U0001f3ac\n@] = 1;",
+    "fn f() { let (a // \u00e9\n@) = b; }", "fn f() { if x {} // \U0001f3ac\n@}", "fn f() { if (a) b; else // \u00e9\n@}", "const A = a + // \u20ac\n  @* b;",
+    "const A = 1; // \u00e9\n// \u20ac\n// \U0001f3ac\n @in // \u00e9", "fn // \u00e9 fn f() {}@", "struct S { a: T // ,\n@b: T }", "//\nfn f() {{{//\n@",
+    "const \u0041 = 1 // \u00e9 ;\n@", "\n\n\n@}\n\n\n", "const A = f(a, // \u00e9\n b, // \u20ac\n @, c);",
+]
+
+# One text, and one item, for each construct.
+CONSTRUCTS = [
+    "const A: T = 1;", "const A: [[T; 0x2]; 3] = [[1, 2], b];", "const A: ((), (,), (T)*, (T, U,)**) = ();", "const A = [1; 2];",
+    "const A = [[], [1,], [1, 2]];", "const A = ((1), (2,), (3, 4,));", "const A = new (T, (U)*,)*[n];", "const A = P { x: 1, y: Q {}, };",
+    "const A = f(a, g(),)(b).c.0[d];", "const A = !-a as T as U * b / c % d + e - f;",
+    "const A = a == b != c < d > e <= f >= g & h | i ^ j && k || true && false;", "fn f(a: T, b: [U; 1],) -> (T, U) {}",
+    "struct S { a: T, b: U*, }", "use a;", "use a::b::c;", "use a::{};", "use a::b::{c, d,};", body("let a = b; let (c, (d, e)): T = f;"),
+    body("const B: T = 1; const C = 2;"), body("a; b = c; d.e[0] = f();"), body("return; return a;"), body("{ { } a; }"), body("if (a) b; else c;"),
+    body("if a == b c; else if (d) {} else { e; }"), body("if x { y = 1; }"), body("if (a, b) c;"), body("if (a) if (b) c; else d; else e;"),
+    body("while (a) break; while b continue; loop loop {}"), body("for (let a: T = 0; a < b; a = a + 1) {} for (x = y; z; w) v;"),
+]
+
+
+def stop_cases(cases):
+    for text, start, end in COUNTED_STOPS:
+        if Text(text).nodes() != (SYNTAX, [], [(start, end, STOP)]):
+            raise SystemExit(f"reading_expected.py: {text!r} is {Text(text).nodes()}, counted {start}..{end}")
+        for diagnostics in (0, 7, 8, 9, 15, 16, 17):
+            for length in (0, 1, 2):
+                cases.read(text, None, 0, diagnostics, length)
+    for text in MARKED_STOPS:
+        cases.read(marked(text))
+        cases.read(marked(text), None, 0, 8, 1)
+    # cut off after each token, and with a token that nothing takes before each: what took a token had looked at none after it
+    for text in CONSTRUCTS:
+        base, tokens = cases.base(text.encode()), Text(text).tokens
+        if cases.damaged(base, []).outcome != ACCEPTED or parser_expected.roots(Text(text).nodes()[1]) != 1:
+            raise SystemExit(f"reading_expected.py: {text!r} is not one item")
+        for at, (_, _, start, end, *_) in enumerate(tokens):
+            answers = [(start + 1, start + 3, cases.damaged(base, [(start, start, b" in ")]))]
+            if at + 1 < len(tokens):
+                more = (b"", b" ", b"\n", b" // \xc3\xa9\n")[at % 4]
+                answers.append((end + len(more),) * 2 + (cases.damaged(base, [(end, len(text), more)]),))
+            for first, last, answer in answers:
+                if answer.outcome != SYNTAX or answer.diagnostics != [(first, last, STOP)]:
+                    raise SystemExit(f"reading_expected.py: {text!r} damaged at {start}..{end} stops at {answer.diagnostics}")
 
 
 # ---- bytes
@@ -452,6 +529,7 @@ REFUSED_RUNS = [
     ("fn f() {", "if(a)", 13000, "}"), ("fn f() {", "loop ", 13000, "}"), ("fn f() {let ", "(", 65000, "a = 1; }"), ("fn f() {", "for(x;y;z)", 6500, "}"),
     ("const A = 1x", "+1x", 21000, ";"), ("fn f() {", "1x;", 20000, "}"), ("", "@", 65535, ""), ("", "@a", 32767, ""), ("", "1felt2 ", 9000, ""),
     ("", "\u20ac", 21845, ""), ("", "\u20ac", 21846, ""), ("const A = ", "-", 65535, "1;"), ("", "const A = 1;", 5462, ""), ("", " ", 70000, ""),
+    ("fn", " ", 65533, ""), ("fn ", "a", 65532, ""), ("", " ", 65534, "x"), ("fn f() {", "x;", 32763, "x"), ("const A = 1//", "\u20ac", 21840, "\n"),
 ]
 
 
@@ -807,6 +885,11 @@ def refusal_cases(cases):
     cases.listed_refusal(4294967295, [(65535, 65535, 255)] * 3, 18 * 3 + 38)
     cases.listed_refusal(4294967295, [(65535, 65535, 255)] * 3, 18 * 3 + 37)
     cases.listed_refusal(3, [(65535, 65535, 255)] * 1024)
+    for start, end in ((0, 1), (12, 12), (9, 10), (65535, 65535)):
+        size = len(refusal(7, [(start, end, STOP)]))
+        cases.listed_refusal(7, [(start, end, STOP)])
+        cases.listed_refusal(7, [(start, end, STOP)], size - 1)
+        cases.listed_refusal(7, [(start, end, STOP)], size + 1, rest=7)
 
 
 def spelling_cases(cases):
@@ -841,6 +924,8 @@ def all_cases():
         cases.read(text)
     cases.section("rooms")
     room_cases(cases)
+    cases.section("where reading stops")
+    stop_cases(cases)
     cases.section("two grounds")
     order_cases(cases)
     cases.section("bytes")
@@ -957,15 +1042,33 @@ def place(text, at):
 
 
 def desk_error(text, name, start, end, reason):
+    """The lines of an error: one, and two more where reading stopped."""
     part = text[start:end].decode()
-    line, column = place(text, start)
-    numeral = part if len(part) <= 40 else part[:40] + ".."
+    # the end of a text is shown behind the last character that is not white space
+    shown_at = start if part else len(text.rstrip(b" \t\r\n"))
+    line, column = place(text, shown_at)
+    shown = part if len(part) <= 40 else part[:40] + ".."
     sign = f" '{part}'" if len(part) == 1 and "!" <= part <= "~" else ""
     said = {
-        1: f"no token begins with U+{ord(part[0]):04X}{sign}", 2: f"the numeral {numeral} is above 18446744073709551615",
-        3: f"the numeral {numeral} is not well formed", 4: f"the numeral {numeral} has an unknown suffix",
-    }[reason]
-    return f"{name}:{line}:{column}: {said} (bytes {start}..{end})"
+        1: lambda: f"no token begins with U+{ord(part[0]):04X}{sign}", 2: lambda: f"the numeral {shown} is above 18446744073709551615",
+        3: lambda: f"the numeral {shown} is not well formed", 4: lambda: f"the numeral {shown} has an unknown suffix",
+        5: lambda: f"reading stopped at {shown}" if part else "reading stopped: the text ends here",
+    }[reason]()
+    lines = [f"{name}:{line}:{column}: {said} (bytes {start}..{end})"]
+    return lines + desk_carets(text, shown_at, len(part)) if reason == STOP else lines
+
+
+def desk_carets(text, at, width):
+    """The line around a place, up to 60 characters on either side, and carets under so many of them."""
+    whole, at = text.decode(), len(text[:at].decode())
+    first, last = whole.rfind("\n", 0, at) + 1, (whole + "\n").find("\n", at)
+    start, end = max(first, at - 60), min(last, at + 60)
+    before, after = ".." if start > first else "", ".." if end < last else ""
+    if not after and end > at and whole[end - 1] == "\r":
+        end -= 1
+    line = "".join("?" if c < " " and c != "\t" or c == "\x7f" else c for c in whole[start:end])
+    under = "".join("\t" if c == "\t" else " " for c in whole[start:at])
+    return ["  " + before + line + after, "  " + " " * len(before) + under + "^" * max(1, min(width, end - at))]
 
 
 def desk_lines(name, text):
@@ -974,9 +1077,8 @@ def desk_lines(name, text):
     verdict = f"{name}: {answer.outcome} {OUTCOME_WORDS[answer.outcome]}"
     if answer.outcome == ACCEPTED:
         return [f"{verdict}: tokens {answer.counts[0]}, nodes {answer.counts[1]}"] + list(desk_tree(text, answer.nodes))
-    if answer.outcome in (LEXICAL, SUFFIX):
-        return [f"{verdict}: errors {answer.counts[2]}"] + [desk_error(text, name, *error) for error in answer.diagnostics]
-    return [f"{verdict}: {OUTCOME_SAID[answer.outcome]}"]
+    said = f"errors {answer.counts[2]}" if answer.outcome in (LEXICAL, SUFFIX) else OUTCOME_SAID[answer.outcome]
+    return [f"{verdict}: {said}"] + [line for error in answer.diagnostics for line in desk_error(text, name, *error)]
 
 
 def show(line):

@@ -6,6 +6,9 @@ Each rule below names the lines of parser.rs that it is taken from. Nothing here
 
 The nest is counted as the text is read. A token that is taken at nest above 64 ends everything at once, which is exact:
 outcome 5 stands before all that could still be found out. So no text makes Python recurse more deeply than the nest does.
+
+Where a text stops is kept in the same way: a token is taken when it is gone past, whatever becomes of the attempt. `just` goes past
+a token before anything can turn it down, and nothing else does; `paren_tail` only looks.
 """
 
 import sys
@@ -31,11 +34,11 @@ class Node:
 
 
 class State:
-    """The tokens of a text, the place among them, the nest, and the highest nest at which a token was taken."""
+    """The tokens of a text, the place among them, the first not taken, the nest, and the highest at which one was taken."""
 
     def __init__(self, text, tokens):
         self.text, self.tokens = text, tokens
-        self.at, self.nest, self.highest = 0, 0, 0
+        self.at, self.untaken, self.nest, self.highest = 0, 0, 0, 0
         self.known = {}
 
     def kind(self):
@@ -45,6 +48,7 @@ class State:
         self.taken_at(self.nest)
         token = self.tokens[self.at]
         self.at += 1
+        self.untaken = max(self.untaken, self.at)
         return token
 
     def taken_at(self, nest):
@@ -169,7 +173,10 @@ def spanned(parser, made):
 
 
 class recursive:
-    """A rule that adds one to the nest. What it answers at a place is kept, with how much deeper it has taken a token."""
+    """A rule that adds one to the nest. What it answers at a place is kept, with how much deeper it has taken a token.
+
+    At a place where it was before it takes no token that it has not taken there already.
+    """
 
     def __init__(self):
         self.body = None
@@ -194,7 +201,7 @@ class recursive:
 
 type_expr, alloc_type_expr, pattern, expr, statement = [recursive() for _ in range(5)]
 
-LITERALS = {0: "Literal", 1: "LiteralFelt", 2: "LiteralU32", 3: "Literal"}
+LITERALS = {1: "LiteralFelt", 2: "LiteralU32"}
 
 
 def joined(kind, *parts, value=0):
@@ -241,7 +248,7 @@ type_expr.body = stars(choice(named_type, array_type, tuple_type(type_expr)))
 # ---- expressions, 757 to 1244
 
 literal = spanned(just("LiteralNumber"), lambda token, span, text: Node(
-    LITERALS[token[1]], span, value=token[4], suffix=3 if token[1] == 3 else 0, base=token[5]))
+    LITERALS.get(token[1], "Literal"), span, value=token[4], suffix=token[1], base=token[5]))
 
 boolean_literal = choice(spanned(just("True"), lambda token, span, text: Node("Bool", span, value=1)),
                          spanned(just("False"), lambda token, span, text: Node("Bool", span, value=0)))
@@ -435,11 +442,12 @@ def post_order(roots):
 
 
 def parse(text, tokens):
-    """(nodes, spans of the literals with an unknown suffix); or None where the tokens have no derivation. It may raise Deep."""
+    """(nodes, spans of the literals with an unknown suffix). Where the tokens have no derivation, (None, place among them of
+    the first that no attempt took, which is their number if all were taken). It may raise Deep."""
     state = State(text, tokens)
     trees = items(state)
     if state.at < len(tokens):
-        return None
+        return None, state.untaken
     nodes = post_order(trees)
-    unknown = [(node.start, node.end) for node in nodes if node.suffix]
+    unknown = [(node.start, node.end) for node in nodes if node.suffix == 3]
     return [(node.kind, node.start, node.end, len(node.children), node.value, node.base) for node in nodes], unknown

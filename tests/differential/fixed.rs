@@ -73,6 +73,34 @@ const BASES: [&str; 20] = [
     "const A = 0X + 0o + 0B + 0o8 + 0b2 + 0xg + 0xfelt + 0x10000000000000000;",
 ];
 
+/// Refused texts that stop in their middle, at their end, after white space and comments, and after tokens given back.
+const STOPS: [&str; 24] = [
+    "x",
+    "fn",
+    "fn f() {",
+    "fn f() { a; // \u{e9}\u{1f3ac}\n ",
+    "// \u{20ac}\nconst A = 1 2;",
+    "const A = 1; in",
+    "const A = [1;",
+    "const A: [T; 3u32] = 1;",
+    "const A: [T; 3 + ] = 1;",
+    "const A: (T, U,, V) = 1;",
+    "const A = t.0u32;",
+    "const A = a as T as 5;",
+    "const A = a + b * / c;",
+    "const A = new T*[1, 2];",
+    "use a::b::;",
+    "use a::{b, c,, d};",
+    "struct S { a: T, b }",
+    "fn f(a: T, b) {}",
+    "fn f() -> {}",
+    "fn f() { if (a) b; else }",
+    "fn f() { if x { y: 1; } }",
+    "fn f() { let ((a), b) = c; }",
+    "fn f() { for (x; y; z.) {} }",
+    "fn f() { while (a)(b) == c {} }",
+];
+
 struct List {
     cases: Vec<u8>,
     answers: String,
@@ -119,12 +147,17 @@ impl List {
             self.add(text, 0, 0, diagnostics);
             self.add(text, 17, 3, diagnostics - 1);
         }
+        if answer.outcome == reader::SYNTAX {
+            self.add(text, TOKENS, 0, diagnostics);
+            self.add(text, TOKENS, 3, diagnostics - 1);
+            self.add(text, TOKENS, NODES, 0);
+        }
     }
 }
 
 fn list() -> List {
     let mut list = List { cases: Vec::new(), answers: String::new(), count: 0 };
-    for text in NAMED.iter().chain(&BASES) {
+    for text in NAMED.iter().chain(&BASES).chain(&STOPS) {
         list.add_with_rooms(text.as_bytes());
     }
     for nest in [63, 64] {

@@ -1,8 +1,9 @@
 //! The reader by hand against parser.rs word for word.
 //!
 //! The rules below are parser.rs's combinators, one for one, with nothing decided by a look ahead and nothing kept from a dropped
-//! attempt. They give outcome 0, 5, 7 or 8 and the unknown suffixes, slowly, and no tree. That holds `reader.rs` to the order of
-//! choice and to the nests of all attempts; its trees are held against the library's. parser.rs has no bases, so they are left out.
+//! attempt. They give outcome 0, 5, 7 or 8, the unknown suffixes and the first token that no attempt took, slowly, and no tree. That
+//! holds `reader.rs` to the order of choice, to the nests of all attempts and to what they take; its trees are held against the
+//! library's. parser.rs has no bases, so they are left out.
 
 // the run alone uses the rest of them
 #[allow(dead_code)]
@@ -39,7 +40,7 @@ enum Rule {
     Repeated(Box<Rule>),
     OrNot(Box<Rule>),
     SeparatedBy { item: Box<Rule>, separator: TokenKind, at_least: usize, allow_trailing: bool },
-    /// `rewind`: the token has to stand here and is given back
+    /// `rewind`: the token has to stand here; a look takes nothing
     Rewind(TokenKind),
     /// `try_map_with`: what was read is turned down by its tokens
     TryMap(Box<Rule>, fn(&[Token]) -> bool),
@@ -238,6 +239,8 @@ struct Literally<'a> {
     rules: &'a [Rule],
     tokens: &'a [Token],
     at: usize,
+    /// The first token that no attempt has taken.
+    untaken: usize,
     nest: u32,
     /// Literals with an unknown suffix.
     emitted: Vec<usize>,
@@ -256,6 +259,7 @@ impl Literally<'_> {
                     return Err(Stop::Nest);
                 }
                 self.at += 1;
+                self.untaken = self.untaken.max(self.at);
                 Ok(())
             }
             _ => Err(Stop::Fail),
@@ -322,11 +326,10 @@ impl Literally<'_> {
                 }
                 Ok(())
             }
-            Rewind(kind) => {
-                self.take(*kind)?;
-                self.at -= 1;
-                Ok(())
-            }
+            Rewind(kind) => match self.tokens.get(self.at) {
+                Some(token) if token.kind == *kind => Ok(()),
+                _ => Err(Stop::Fail),
+            },
             TryMap(rule, keeps) => {
                 let first = self.at;
                 self.read(rule)?;
@@ -347,9 +350,10 @@ impl Literally<'_> {
     }
 }
 
-/// Outcome 0, 5, 7 or 8 with the places of unknown suffixes among the tokens; none where it takes too long.
+/// Outcome 0, 5, 7 or 8 with the places among the tokens of unknown suffixes, or of where reading stopped; none where it takes too
+/// long.
 fn outcome(item: &Rule, rules: &[Rule], tokens: &[Token]) -> Option<(u32, Vec<usize>)> {
-    let mut literally = Literally { rules, tokens, at: 0, nest: 0, emitted: Vec::new(), steps: 0 };
+    let mut literally = Literally { rules, tokens, at: 0, untaken: 0, nest: 0, emitted: Vec::new(), steps: 0 };
     loop {
         match literally.fits(item) {
             Ok(true) => {}
@@ -359,7 +363,7 @@ fn outcome(item: &Rule, rules: &[Rule], tokens: &[Token]) -> Option<(u32, Vec<us
         }
     }
     Some(if literally.at < tokens.len() {
-        (7, Vec::new())
+        (7, vec![literally.untaken])
     } else if !literally.emitted.is_empty() {
         (8, literally.emitted)
     } else {
@@ -386,7 +390,8 @@ fn main() {
             continue;
         };
         let answer = reader::read(&text, usize::MAX, usize::MAX);
-        let spans: Vec<_> = places.iter().map(|&place| lexed.tokens[place].span).collect();
+        let end = reader::Span { start: text.len() as u16, end: text.len() as u16 };
+        let spans: Vec<_> = places.iter().map(|&place| lexed.tokens.get(place).map_or(end, |token| token.span)).collect();
         let expected: Vec<_> = answer.diagnostics.iter().map(|diagnostic| diagnostic.span).collect();
         if outcome != answer.outcome || spans != expected {
             println!("text {number} of seed {seed}: parser.rs word for word {outcome} {spans:?}, reader {answer:?}");

@@ -167,6 +167,8 @@ struct Seen {
     texts: u64,
     bytes: u64,
     readings: [u64; 9],
+    /// Readings with outcome 7 by where they stop: at a token, at the end of the text.
+    stops: [u64; 2],
     lexings: [u64; 5],
     listings: [u64; 12],
     numerals: [u64; 10],
@@ -302,6 +304,10 @@ impl Desk {
             return Err(answer("the text was written"));
         }
         self.seen.readings[outcome as usize] += 1;
+        if outcome == reader::SYNTAX {
+            let span = expected.diagnostics[0].span;
+            self.seen.stops[(span.start == span.end) as usize] += 1;
+        }
         for node in expected.nodes.iter().filter(|node| node.base > 0) {
             let seen = if node.kind == NodeKind::Count { &mut self.seen.counts } else { &mut self.seen.literals };
             seen[node.base as usize] += 1;
@@ -532,6 +538,7 @@ impl Desk {
             numbers.iter().map(|&number| format!("{number}: {}", counts[number])).collect::<Vec<_>>().join(", ")
         };
         println!("readings by outcome   {}", counts(&seen.readings, &[0, 1, 2, 3, 4, 5, 6, 7, 8]));
+        println!("stops of outcome 7    at a token: {}, at the end: {}", seen.stops[0], seen.stops[1]);
         println!("lexings by outcome    {}", counts(&seen.lexings, &[0, 1, 2, 3, 4]));
         println!("listings by outcome   {}", counts(&seen.listings, &[0, 10, 11]));
         println!("numerals by outcome   {}", counts(&seen.numerals, &[0, 1, 3, 9]));
@@ -541,11 +548,11 @@ impl Desk {
         println!("numerals by base      {}", counts(&seen.entry_bases, &BASES));
     }
 
-    /// Whether every outcome of a reading and every base was seen.
+    /// Whether every outcome of a reading, both places to stop and every base were seen.
     fn covered(&self) -> bool {
         let seen = &self.seen;
         let every_base = |counts: &[u64]| BASES.iter().all(|&base| counts[base] > 0);
-        seen.readings.iter().all(|&count| count > 0)
+        seen.readings.iter().chain(&seen.stops).all(|&count| count > 0)
             && every_base(&seen.literals)
             && every_base(&seen.counts)
             && every_base(&seen.entry_bases)
@@ -563,6 +570,7 @@ fn edge_texts() -> Vec<Vec<u8>> {
     .to_vec();
     for statement in [
         "if x {}", "if (x) {}", "a || b && c;", "let (a) = b;", "[1; 3u32];", "12u8;", "if (a) == (b) {}", "if a [12u8, 1];",
+        "t.0u32;", "let a: [T; 3u32] = b;", "if (a) b; else", "{",
     ] {
         texts.push(format!("fn f() {{ {statement} }}").into_bytes());
     }
@@ -613,7 +621,7 @@ fn run(seconds: u64, seed: u64) -> bool {
     desk.report(start);
     let covered = desk.covered();
     if !covered {
-        println!("not every outcome of a reading, or not every base, was seen");
+        println!("not every outcome of a reading, not both places to stop, or not every base, was seen");
     }
     covered
 }

@@ -26,6 +26,7 @@ pub const REASON_CHARACTER: u8 = 1;
 pub const REASON_OVERFLOW: u8 = 2;
 pub const REASON_FORMAT: u8 = 3;
 pub const REASON_SUFFIX: u8 = 4;
+pub const REASON_STOP: u8 = 5;
 
 /// `TokenType` in its order, from 1. `End` stands for the place after the last token.
 #[derive(Clone, Copy, Debug, PartialEq, Eq)]
@@ -452,6 +453,8 @@ struct Reader<'a> {
     text: &'a [u8],
     tokens: &'a [Token],
     at: usize,
+    /// The first token that nothing has taken so far, not even an attempt that was dropped.
+    untaken: usize,
     nest: u32,
     nodes: Vec<Node>,
     /// Literals with an unknown suffix, in the nodes as they stand.
@@ -473,6 +476,7 @@ impl Reader<'_> {
                     return Err(Stop::Nest);
                 }
                 self.at += 1;
+                self.untaken = self.untaken.max(self.at);
                 Ok(token)
             }
             _ => Err(Stop::Fail),
@@ -859,10 +863,11 @@ impl Reader<'_> {
                 reader.pattern()?;
                 count += 1;
             }
-            reader.take(TokenKind::RParen)?;
+            // `at_least(2)` turns one pattern down before `)` is taken
             if count < 2 {
                 return Err(Stop::Fail);
             }
+            reader.take(TokenKind::RParen)?;
             reader.push(NodeKind::PatternTuple, NO_SPAN, count, 0);
             Ok(())
         })
@@ -1132,6 +1137,7 @@ pub fn read(text: &[u8], token_room: usize, node_room: usize) -> Answer {
         text,
         tokens: &lexed.tokens,
         at: 0,
+        untaken: 0,
         nest: 0,
         nodes: Vec::with_capacity(lexed.tokens.len()),
         errors: Vec::new(),
@@ -1145,7 +1151,10 @@ pub fn read(text: &[u8], token_room: usize, node_room: usize) -> Answer {
         }
     }
     if reader.peek() != TokenKind::End {
-        return Answer::refused(SYNTAX);
+        // the first token that was not taken, or nothing at the end of the text
+        let end = Span { start: text.len() as u16, end: text.len() as u16 };
+        let span = reader.tokens.get(reader.untaken).map_or(end, |token| token.span);
+        return Answer { outcome: SYNTAX, diagnostics: vec![Diagnostic { span, reason: REASON_STOP }], ..Answer::default() };
     }
     let Reader { nodes, errors, .. } = reader;
     if !errors.is_empty() {
@@ -1357,6 +1366,35 @@ mod tests {
         assert_eq!(body("if (a) == (b) {}"), 7);
         assert_eq!(listing("fn f(){if a [12u8, 1];}"), r#"{"refused":8,"diagnostics":[[13,17,4]]}"#);
         assert_eq!(listing("fn f(){a[12u8];b(1u8);}"), r#"{"refused":8,"diagnostics":[[9,13,4],[17,20,4]]}"#);
+    }
+
+    /// Each text has `@` before the first token that nothing takes, perhaps with white space between, or at its end.
+    #[test]
+    fn stops() {
+        let stops = |marked: &str| {
+            let at = marked.find('@').unwrap();
+            let text = marked.replace('@', "");
+            let answer = read(text.as_bytes(), ENOUGH, 0);
+            let [Diagnostic { span, reason: REASON_STOP }] = answer.diagnostics[..] else { panic!("{text}: {answer:?}") };
+            let rest = lex(text[at..].as_bytes(), ENOUGH).tokens;
+            let owed = rest.first().map_or(Span { start: 0, end: 0 }, |token| token.span);
+            let (start, end) = (at + owed.start as usize, at + owed.end as usize);
+            assert_eq!((answer.outcome, span.start as usize, span.end as usize), (SYNTAX, start, end), "{text}");
+        };
+        for statements in [
+            "if x {}@", "let (a@) = b;", "let ((a@), b) = c;", "let (a,@) = b;", "[1; 3u32]@;", "[1; 3@; 4];", "[1,@, 2];", "t.0u32@;",
+            "t.@-1;", "if (a) @== (b) {}", "if (a) b; else@", "if (a) if (b) c; else @+ d;", "x { y: 1 @; }", "a as T as @5;",
+            "a + b * @/ c;", "f(a, b,@, c);", "(a, b,@, c);", "x = y @= z;", "for (x; y; z.@) {}", "let a: [T; 3u32@] = b;",
+            "let a: [T; 3 +@] = b;", "let a: (T, U, @5) = b;", "if x { y @}", "return a @b;", "while (a)(b) == c {}@",
+        ] {
+            stops(&format!("fn f() {{ {statements} }}"));
+        }
+        for text in [
+            "@x", "fn@", "fn f() {@", "fn f() { a; // \u{e9}\n@", "use a::@;", "use a::{b@", "const A = 1; // \u{20ac}\n\t@in",
+            "const A = 1 @2; const B = ;", "fn f() { {@", "const A = [1;@", "struct S { a: T, @1 }", "fn f() -> @{}",
+        ] {
+            stops(text);
+        }
     }
 
     #[test]

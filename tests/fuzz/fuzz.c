@@ -5,6 +5,8 @@
 // * A reading, and a lexing, with tables of any other size has the outcome, the counts and the entries that follow from it: 01's
 // order
 //   of outcomes, no entry of a refused text, as many diagnostics as there is room for, zero for every byte that is left.
+// * Outcome 7 has one diagnostic, at a token or at the end of the text. A text that ends with that token stops there too; one that
+//   ends before it stops at its end, unless it is then derived or too deep.
 // * The numeral entry agrees with each numeral of the text, and with the text as a spelling.
 // * Where the reader of tests/differential is linked in, a reading with room for every text has its answer, byte for byte.
 // * A listing parses back to the numbers that were listed, needs just the room that it takes, and is zero after it.
@@ -51,6 +53,7 @@ static void make_rooms(void) {
 FEATURES uint8_t tokens_seen[OUTCOMES * BITS];
 FEATURES uint8_t diagnostics_seen[OUTCOMES * BITS];
 FEATURES uint8_t neighbours_seen[NEIGHBOURS * NEIGHBOURS];
+FEATURES uint8_t stops_seen[NEIGHBOURS * NEIGHBOURS];
 
 static size_t least(size_t a, size_t b) { return a < b ? a : b; }
 
@@ -136,6 +139,12 @@ static void give_tables_back(bool read) {
     }
 }
 
+// As many entries as the text has bytes, which is enough.
+static struct sizes sizes_for_all(size_t length) {
+    size_t most = least(length, CAIRO_M_LONGEST_TEXT);
+    return (struct sizes){most * sizeof(cairo_m_token), most * sizeof(cairo_m_node), most * sizeof(cairo_m_diagnostic), most};
+}
+
 // RFC 3629
 static size_t character(const uint8_t *at, size_t left) {
     static const struct {
@@ -186,6 +195,41 @@ static struct numeral call_numeral(const uint8_t *spelling, size_t length, enum 
         give_back(&byte_rooms[i]);
     give_back_bytes(&text_room, spelling);
     return n;
+}
+
+// The place among the tokens where reading stopped, which is their number if that was at the end.
+static size_t stop_place(void) {
+    size_t at = 0;
+    while (at < whole.lexed.token_count && whole.tokens[at].start != whole.diagnostics[0].start)
+        at++;
+    return at;
+}
+
+// The outcome of the front of a text; if it has no derivation either, it stops as is owed.
+static uint32_t read_front(const uint8_t *text, size_t length, cairo_m_diagnostic owed, enum way way, uint8_t garbage) {
+    struct answer said = call_read(text, length, sizes_for_all(length), way, garbage);
+    if (said.outcome == CAIRO_M_SYNTAX)
+        hold(said.diagnostic_count == 1 && memcmp(diagnostic_room.bytes, &owed, sizeof owed) == 0,
+             "the front of a text stops elsewhere");
+    give_tables_back(true);
+    return said.outcome;
+}
+
+// No attempt looks further than at the first token that none takes, so what comes after it is of no account.
+static void check_stop(const uint8_t *text, size_t length, enum way way, uint8_t garbage) {
+    cairo_m_diagnostic d = whole.diagnostics[0];
+    hold(whole.read.diagnostic_count == 1 && d.reason == CAIRO_M_REASON_STOP && is_zero(d.zero, 3),
+         "a text without a derivation has other diagnostics");
+    size_t at = stop_place();
+    if (at == whole.lexed.token_count) {
+        hold(d.start == length && d.end == length, "reading stopped at no token and not at the end");
+        return;
+    }
+    hold(d.end == whole.tokens[at].end, "reading stopped at a part of a token");
+    hold(read_front(text, d.end, d, way, garbage) == CAIRO_M_SYNTAX, "a text hangs on what no attempt looked at");
+    d.end = d.start;
+    uint32_t outcome = read_front(text, d.start, d, way, garbage);
+    hold(outcome != CAIRO_M_LEXICAL && outcome != CAIRO_M_ENCODING, "the front of a text has other tokens");
 }
 
 static void check_diagnostics(const uint8_t *text, size_t length, uint32_t outcome, enum way way, uint8_t garbage) {
@@ -243,8 +287,8 @@ static void check_outcome(const uint8_t *text, size_t length) {
     hold(outcome == CAIRO_M_LONG || (outcome == CAIRO_M_ENCODING) == !is_utf8(text, length), "the bytes and outcome 2 disagree");
     hold(lexed == (outcome <= CAIRO_M_LEXICAL ? outcome : 0), "reading and lexing disagree");
     hold((whole.lexed.diagnostic_count > 0) == (lexed == CAIRO_M_LEXICAL), "lexing has diagnostics that its outcome has not");
-    hold((whole.read.diagnostic_count > 0) == (outcome == CAIRO_M_LEXICAL || outcome == CAIRO_M_SUFFIX),
-         "reading has diagnostics that its outcome has not");
+    bool told = outcome == CAIRO_M_LEXICAL || outcome == CAIRO_M_SYNTAX || outcome == CAIRO_M_SUFFIX;
+    hold((whole.read.diagnostic_count > 0) == told, "reading has diagnostics that its outcome has not");
     hold(whole.lexed.token_count == 0 || lexed == 0, "a text refused by lexing has tokens");
     hold(whole.read.token_count == (outcome == 0 ? whole.lexed.token_count : 0), "reading and lexing have other counts of tokens");
     hold(whole.read.node_count == 0 || outcome == 0, "a refused text has nodes");
@@ -263,12 +307,10 @@ static void note(void) {
     diagnostics_seen[outcome * BITS + bits(whole.read.diagnostic_count)] = 1;
     for (size_t i = 1; outcome == 0 && i < whole.lexed.token_count; i++)
         neighbours_seen[whole.tokens[i - 1].kind * NEIGHBOURS + whole.tokens[i].kind] = 1;
-}
-
-// As many entries as the text has bytes, which is enough.
-static struct sizes sizes_for_all(size_t length) {
-    size_t most = least(length, CAIRO_M_LONGEST_TEXT);
-    return (struct sizes){most * sizeof(cairo_m_token), most * sizeof(cairo_m_node), most * sizeof(cairo_m_diagnostic), most};
+    if (outcome == CAIRO_M_SYNTAX) {
+        size_t at = stop_place(), count = whole.lexed.token_count;
+        stops_seen[(at > 0 ? whole.tokens[at - 1].kind : 0) * NEIGHBOURS + (at < count ? whole.tokens[at].kind : 0)] = 1;
+    }
 }
 
 static void compare_with_reference(const uint8_t *text, size_t length) {
@@ -314,7 +356,10 @@ static void read_whole(const uint8_t *text, size_t length, enum way way, uint8_t
     hold_table(&node_room, whole.nodes, whole.read.node_count * sizeof(cairo_m_node), "reading leaves bytes in the node table");
     give_tables_back(true);
 
-    check_diagnostics(text, length, whole.read.outcome, way, garbage);
+    if (whole.read.outcome == CAIRO_M_SYNTAX)
+        check_stop(text, length, way, garbage);
+    else
+        check_diagnostics(text, length, whole.read.outcome, way, garbage);
     if (whole.lexed.outcome == 0)
         check_tokens(text, length, whole.tokens, whole.lexed.token_count);
     if (whole.read.outcome == 0)
