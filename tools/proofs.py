@@ -25,9 +25,9 @@ OWN = {"Reads": "", "Puts": "λ text. ", "Grown": "λ text w. ", "Step": "λ tex
 MAKE = {"Puts": "puts", "Grown": "grown", "Step": "steps", "Free": "free"}
 # the forms of parameters that proofs/Cycles has measures for
 FORMS = {("text", "tokens", "nodes", "cursor"): "reader", ("text", "tokens", "nodes", "cursor", "n"): "level", ("text", "tokens", "nodes", "cursor", "kind"): "level",
-         ("text", "tokens", "nodes", "at", "count", "nest"): "inside", ("text", "tokens", "nodes", "at", "count", "nest", "n"): "inside-level"}
+         ("text", "tokens", "nodes", "at", "count", "nest", "furthest"): "inside", ("text", "tokens", "nodes", "at", "count", "nest", "furthest", "n"): "inside-level"}
 # calls that read nothing by themselves
-PLAIN = ("enter", "leave", "skip", "peek", "second", "begin", "ended", "ended-with", "join", "deeper", "type-name")
+PLAIN = ("rewind", "enter", "leave", "skip", "peek", "second", "begin", "ended", "ended-with", "join", "deeper", "type-name")
 # a reader that begins so does nothing where nothing is being read
 IDLE = re.compile(r"\s*if cursor\.status != READING \{\n        return cursor(\.ended_with\(false\))?;")
 WORD = r"(?<![\w.·-])[a-z][a-z0-9-]*(?![\w·-])"
@@ -222,18 +222,18 @@ def shape(fn, recipe):
         n = 2 if look else 1
         if kind == "many" and "&" not in fn.grammar:
             if look: r.setdefault(on(1), "rounds-miss LOOP =peek (OUT, tt) tt" if look.group(1) == "!=" else "rounds-before LOOP =peek OUT tt")
-            r.setdefault(on(n), "rounds-end LOOP TEST ROUND OUT"); r.setdefault(on(n + 1), "rounds-off LOOP OUT")
+            r.setdefault(on(n), "rounds-end LOOP TEST ROUND OUT BACK"); r.setdefault(on(n + 1), "rounds-off LOOP OUT")
         elif kind in ("list", "fields"):
             peek = next(c for c, i in cs if i > test and c.startswith("peek"))
             r["invariant"] = "Listing"
-            r.setdefault(on(1), "listing-none LOOP TEST ROUND OUT")
+            r.setdefault(on(1), "listing-none LOOP TEST ROUND OUT BACK")
             r.setdefault(on(2), f"listing-miss tt LOOP ROUND READ KEPTONE ={peek} OUT")
             r.setdefault(on(3), "listing-off LOOP OUT")
             r.setdefault("loop-again", f"listing-next LOOP ROUND READ KEPTONE ={peek} OUT =take")
         elif kind == "entries":
             head, one = "(" + run(0, start) + ")", "if2" if idle else "if1"
-            r.setdefault(later(1), f"entries-none {head} {one}")
-            r.setdefault(on(1), f"entries-end {head} {one} LOOP TEST ROUND OUT")
+            r.setdefault(later(1), f"entries-none {head} {one} BACK")
+            r.setdefault(on(1), f"entries-end {head} {one} LOOP TEST ROUND OUT BACK")
             r.setdefault(on(2), f"entries-off {head} {one} LOOP OUT")
     elif body.count("return ") == (1 if idle else 0) and "while" not in body and (fn.relation in READ or fn.relation == "Ends"):
         term = run(0, len(body))
@@ -312,6 +312,8 @@ class Reader:
         term = term.replace("LOOP", "loop" if self.fn.relation in TEXTED else "(loop text)")
         if test: term = term.replace("TEST", test)
         if tests: term = term.replace("OUT", tests[0]).replace("READ", tests[min(1, len(tests) - 1)])
+        backs = [k for k in d if re.match(r"rewind\d*$", k)]
+        if backs: term = term.replace("BACK", backs[0])
         if "KEPT" in term:
             names = []
             for path, th in keeps:

@@ -59,7 +59,7 @@ module _ (text : List ℕ) (k m : ℕ) where
 
   by-tokens : {ts : List Token} {o : Outcome} → length text ≤ 65535 → Lexes 0 text ts [] → length ts ≤ k / 16 → TokensAre text (m / 16) ts o → Holds (tokensOf o) (nodesOf o)
   by-tokens h l q (is-nest d) = none
-  by-tokens h l q (is-syntax d s) = none
+  by-tokens h l q (is-syntax d s i) = none
   by-tokens h l q (is-suffix d t) = none
   by-tokens h l q (is-node-room d t g) = none
   by-tokens h l q (is-accepted d t g) = some h l q t g

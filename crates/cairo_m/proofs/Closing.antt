@@ -4,9 +4,9 @@ use mathlib.Core.List.{List, [], _∷_, map}
 use Prim.Native.Nat.{ℕ, _/_, _≤_, _<_, min}
 use native.Mathlib.Omega.{arith}
 use lib.ListN.{length, replicate}
-use Rattle.tables.specs.Tables.{Token, Node, encodeDiagnostic, tokensOf as tokensIn, cleared, laid, table}
-use Rattle.tables.proofs.Laws.{diagnostic-size, laid-none, table-none, cleared-all, tokens-length}
-use Rattle.grammar.specs.Grammar.{Tree, Deep}
+use Rattle.tables.specs.Tables.{Token, Node, Diagnostic, encodeDiagnostic, stored, tokensOf as tokensIn, tokenAt, cleared, laid, table}
+use Rattle.tables.proofs.Laws.{diagnostic-size, tokens-at, laid-none, laid-more, table-none, cleared-all, tokens-length}
+use Rattle.grammar.specs.Grammar.{Tree, Deep, Stops}
 use Rattle.tables.specs.Suffix.{unknownNumerals}
 use Rattle.grammar.proofs.Suffix.{unknown-suffixes}
 use Rattle.grammar.proofs.Few.{few}
@@ -17,12 +17,21 @@ use Rattle.cairo_m.specs.declared.Reading.{Reading}
 use Rattle.cairo_m.specs.declared.Reading.the-variants as Reading
 use Rattle.cairo_m.specs.Reading.{input, nest, suffix, node-room, accepted, is-nest, is-suffix, is-node-room, is-accepted, suffixError}
 use Rattle.cairo_m.specs.Reading as R
-use Rattle.cairo_m.specs.Suffixes.{Unknown, TokensRead}
+use Rattle.cairo_m.specs.Suffixes.{Stopped, stopped-at, stopped-after, Unknown, TokensRead}
+
+-- where reading stopped, by the numbers that `stop` lists
+module _ {text w T U : List ℕ} {i n : ℕ} (e : n ≡ length w / 16) where
+  pub stop-at : i < n → {a b : ℕ} → a ≡ tokenAt w i .start → b ≡ tokenAt w i .end → U ≡ stored 8 T 0 (encodeDiagnostic (record { start = a; end = b; reason = 5 })) → Stopped text w i T U
+  stop-at h f g u = stopped-at (omega arith) (rw (f, g) at u)
+
+  pub stop-after : n ≤ i → {a : ℕ} → a ≡ length text → U ≡ stored 8 T 0 (encodeDiagnostic (record { start = a; end = a; reason = 5 })) → Stopped text w i T U
+  stop-after h f u = stopped-after (omega arith) (rw f at u)
 
 -- what `parse` answered, read back
 data Seen (text w : List ℕ) (m : ℕ) (U : List ℕ) : Parsed → Type 0 where
   seen-deep : Deep (input text (tokensIn w)) → U ≡ replicate m 0 → Seen text w m U Parsed.Deep
-  seen-syntax : (Deep (input text (tokensIn w)) → ⊥) → ((ns : List Node) (us : List Token) → Tree (input text (tokensIn w)) ns us → ⊥) → U ≡ replicate m 0 → Seen text w m U Parsed.Syntax
+  seen-syntax : {i : ℕ} → (Deep (input text (tokensIn w)) → ⊥) → ((ns : List Node) (us : List Token) → Tree (input text (tokensIn w)) ns us → ⊥) → Stops (input text (tokensIn w)) i → U ≡ replicate m 0
+      → Seen text w m U (Parsed.Syntax i)
   seen-tree : {ns : List Node} {k : ℕ} → (Deep (input text (tokensIn w)) → ⊥) → Tree (input text (tokensIn w)) ns (unknownNumerals (tokensIn w)) → k ≡ min (length ns) MAX64 → U ≡ table 16 entryOf m ns
       → Seen text w m U (Parsed.Tree k)
 
@@ -32,7 +41,7 @@ seen {text} {w} {m} {U} v = subst (Seen text w m U) (sym (v .answer)) (go (v .ve
     go : (x : Verdict) → VerdictIs (input text (tokensIn w)) x → U ≡ nodesOf m x → Seen text w m U (answerOf x)
     go deep (is-deep d) n = seen-deep d n
     go (tree ns) (is-tree d t) n = seen-tree d (subst (Tree _ ns) (unknown-suffixes t) t) refl n
-    go syntax (is-syntax d s) n = seen-syntax d s n
+    go (syntax i) (is-syntax d s j) n = seen-syntax d s j n
 
 module _ {text w : List ℕ} {m : ℕ} {U : List ℕ} {p : Parsed} (v : ParsedIs text w m U p) where
   module _ {C : List ℕ} where
@@ -45,11 +54,18 @@ module _ {text w : List ℕ} {m : ℕ} {U : List ℕ} {p : Parsed} (v : ParsedIs
         go : Seen text w m U Parsed.Deep → TokensRead text w m U C C Reading.Nest
         go (seen-deep d n) = record { outcome = nest; is = is-nest d; answer = refl; nodes = n ∙ sym (table-none entryOf 16 m); diagnostics = no-errors }
 
-    pub closes-syntax : p ≡ Parsed.Syntax → TokensRead text w m U C C Reading.Syntax
-    closes-syntax e = go (subst (Seen text w m U) e (seen v))
+    pub closes-syntax : {i : ℕ} {c : List ℕ} → p ≡ Parsed.Syntax i → Stopped text w i C c → TokensRead text w m U C c Reading.Syntax
+    closes-syntax {i} {c} e y = go (subst (Seen text w m U) e (seen v)) y
       where
-        go : Seen text w m U Parsed.Syntax → TokensRead text w m U C C Reading.Syntax
-        go (seen-syntax d s n) = record { outcome = R.syntax; is = R.is-syntax d s; answer = refl; nodes = n ∙ sym (table-none entryOf 16 m); diagnostics = no-errors }
+        -- one error is laid
+        one : (d : Diagnostic) → c ≡ stored 8 C 0 (encodeDiagnostic d) → c ≡ laid 8 encodeDiagnostic C (d ∷ [])
+        one d f = f ∙ ap (λ (T : List ℕ). stored 8 T 0 (encodeDiagnostic d)) no-errors ∙ laid-more encodeDiagnostic 8 (omega arith) diagnostic-size C [] d
+
+        go : Seen text w m U (Parsed.Syntax i) → Stopped text w i C c → TokensRead text w m U C c Reading.Syntax
+        go (seen-syntax d s j n) (stopped-at h f) =
+            record { outcome = R.syntax _; is = R.is-syntax d s (R.at-token j (omega (arith, tokens-length w))); answer = refl; nodes = n ∙ sym (table-none entryOf 16 m); diagnostics = one _ (rw (tokens-at w i) f) }
+        go (seen-syntax d s j n) (stopped-after h f) =
+            record { outcome = R.syntax _; is = R.is-syntax d s (R.at-end (λ k l. j .taken k (omega (arith, tokens-length w)))); answer = refl; nodes = n ∙ sym (table-none entryOf 16 m); diagnostics = one _ f }
 
   -- no node is left
   cleared-nodes : {Y : List ℕ} → Y ≡ cleared 0 U → length U ≡ m → Y ≡ table 16 entryOf m []

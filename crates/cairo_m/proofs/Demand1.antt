@@ -28,7 +28,7 @@ none-out encoding h = (refl, refl)
 none-out (lexical ds) h = (refl, refl)
 none-out (token-room ts) h = (refl, refl)
 none-out nest h = (refl, refl)
-none-out syntax h = (refl, refl)
+none-out (syntax d) h = (refl, refl)
 none-out (suffix us) h = (refl, refl)
 none-out (node-room ns) h = (refl, refl)
 

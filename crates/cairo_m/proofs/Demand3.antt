@@ -4,7 +4,7 @@ use mathlib.Core.List.{List, []}
 use Prim.Native.Nat.{ℕ, suc, zero, _/_, _≤_, _<_}
 use native.Mathlib.Omega.{arith}
 use lib.ListN.{length, getD}
-use Rattle.tables.specs.Tables.{Token, Node, nodeAt, nodeTable, tabulate}
+use Rattle.tables.specs.Tables.{Token, Node, Diagnostic, nodeAt, nodeTable, tabulate}
 use Rattle.tables.proofs.Laws.{zero-node, nodes-of-table}
 use Rattle.utf8.specs.Utf8.{Utf8}
 use Rattle.lexer.specs.Lexes.{Lexes}
@@ -52,12 +52,12 @@ pub record Demand (text : List ℕ) (ts : List Token) (b : List ℕ) (outcome co
 
 -- under the premises there are two outcomes
 data Under (text : List ℕ) (n : ℕ) (ts : List Token) : Outcome → Type 0 where
-  underived : ((ns : List Node) (us : List Token) → Tree (input text ts) ns us → ⊥) → Under text n ts syntax
+  underived : {d : Diagnostic} → ((ns : List Node) (us : List Token) → Tree (input text ts) ns us → ⊥) → Under text n ts (syntax d)
   derived : {ns : List Node} → Tree (input text ts) ns [] → length ns ≤ n → Under text n ts (accepted ts ns)
 
 under-tokens : {text : List ℕ} {t n : ℕ} {ts : List Token} {o : Outcome} → Premises text t n ts → TokensAre text n ts o → Under text n ts o
 under-tokens p (is-nest d) = absurd (p .not-deep d)
-under-tokens p (is-syntax d s) = underived s
+under-tokens p (is-syntax d s i) = underived s
 under-tokens p (is-suffix d t) = absurd (some-none (p .no-suffix _ _ t))
 under-tokens p (is-node-room d t h) = absurd (omega (arith, p .tree-fits _ _ t))
 under-tokens p (is-accepted d t h) = derived t h

@@ -7,10 +7,10 @@ use lib.ListN.{length}
 use Rattle.tables.specs.Tables.{Token, Diagnostic, tokenTable, nodeTable, diagnosticTable, tabulate}
 use Rattle.lexer.specs.Lexes.{Lexes}
 use Rattle.lexer.proofs.Determined.{lexes-one}
-use Rattle.grammar.proofs.Whole.{tree-one}
+use Rattle.grammar.proofs.Whole.{tree-one, stops-one}
 use Rattle.cairo_m.specs.declared.Reading.{Reading}
 use Rattle.cairo_m.specs.declared.records.Diagnostic.{Diagnostic as Record}
-use Rattle.cairo_m.specs.Reading.{Outcome, accepted, lexical, token-room, suffix, node-room}
+use Rattle.cairo_m.specs.Reading.{Outcome, accepted, lexical, token-room, syntax, suffix, node-room, StopIs, at-token, at-end}
 use Rattle.cairo_m.specs.Reading.{TokensAre, is-nest, is-syntax, is-suffix, is-node-room, is-accepted, OutcomeIs, is-long, is-encoding, is-lexical, is-token-room, is-lexed}
 use Rattle.cairo_m.specs.Reading.{readingOf, tokensOf, nodesOf, diagnosticsOf, ReadingIs, outcomeOf, Counts, countsOf, NumbersAre, recordAt, EntryIs}
 
@@ -18,29 +18,36 @@ use Rattle.cairo_m.specs.Reading.{readingOf, tokensOf, nodesOf, diagnost
 pub some-none : {A : Type 0} {a : A} {l : List A} → a ∷ l ≡ [] → ⊥
 some-none {l = l} e = let n = ap length e in absurd (omega arith)
 
+-- where it stopped
+pub stop-one : {text : List ℕ} {ts : List Token} {d e : Diagnostic} → StopIs text ts d → StopIs text ts e → d ≡ e
+stop-one (at-token s h) (at-token t k) = rw (stops-one s t) refl
+stop-one (at-token s h) (at-end a) = absurd (s .untaken (a _ h))
+stop-one (at-end a) (at-token s h) = absurd (s .untaken (a _ h))
+stop-one (at-end a) (at-end b) = refl
+
 tokens-one : {text : List ℕ} {n : ℕ} {ts : List Token} {o p : Outcome} → TokensAre text n ts o → TokensAre text n ts p → o ≡ p
 tokens-one (is-nest d) (is-nest e) = refl
-tokens-one (is-nest d) (is-syntax e s) = absurd (e d)
+tokens-one (is-nest d) (is-syntax e s j) = absurd (e d)
 tokens-one (is-nest d) (is-suffix e t) = absurd (e d)
 tokens-one (is-nest d) (is-node-room e t h) = absurd (e d)
 tokens-one (is-nest d) (is-accepted e t h) = absurd (e d)
-tokens-one (is-syntax d s) (is-nest e) = absurd (d e)
-tokens-one (is-syntax d s) (is-syntax e r) = refl
-tokens-one (is-syntax d s) (is-suffix e t) = absurd (s _ _ t)
-tokens-one (is-syntax d s) (is-node-room e t h) = absurd (s _ _ t)
-tokens-one (is-syntax d s) (is-accepted e t h) = absurd (s _ _ t)
+tokens-one (is-syntax d s i) (is-nest e) = absurd (d e)
+tokens-one (is-syntax d s i) (is-syntax e r j) = ap syntax (stop-one i j)
+tokens-one (is-syntax d s i) (is-suffix e t) = absurd (s _ _ t)
+tokens-one (is-syntax d s i) (is-node-room e t h) = absurd (s _ _ t)
+tokens-one (is-syntax d s i) (is-accepted e t h) = absurd (s _ _ t)
 tokens-one (is-suffix d s) (is-nest e) = absurd (d e)
-tokens-one (is-suffix d s) (is-syntax e r) = absurd (r _ _ s)
+tokens-one (is-suffix d s) (is-syntax e r j) = absurd (r _ _ s)
 tokens-one (is-suffix d s) (is-suffix e t) = ap suffix (tree-one s t .1)
 tokens-one (is-suffix d s) (is-node-room e t h) = absurd (some-none (tree-one s t .1))
 tokens-one (is-suffix d s) (is-accepted e t h) = absurd (some-none (tree-one s t .1))
 tokens-one (is-node-room d s h) (is-nest e) = absurd (d e)
-tokens-one (is-node-room d s h) (is-syntax e r) = absurd (r _ _ s)
+tokens-one (is-node-room d s h) (is-syntax e r j) = absurd (r _ _ s)
 tokens-one (is-node-room d s h) (is-suffix e t) = absurd (some-none (tree-one t s .1))
 tokens-one (is-node-room d s h) (is-node-room e t k) = ap node-room (tree-one s t .0)
 tokens-one (is-node-room d s h) (is-accepted e t k) = let q = ap length (tree-one s t .0) in absurd (omega arith)
 tokens-one (is-accepted d s h) (is-nest e) = absurd (d e)
-tokens-one (is-accepted d s h) (is-syntax e r) = absurd (r _ _ s)
+tokens-one (is-accepted d s h) (is-syntax e r j) = absurd (r _ _ s)
 tokens-one (is-accepted d s h) (is-suffix e t) = absurd (some-none (tree-one t s .1))
 tokens-one (is-accepted d s h) (is-node-room e t k) = let q = ap length (tree-one s t .0) in absurd (omega arith)
 tokens-one {ts = ts} (is-accepted d s h) (is-accepted e t k) = ap (accepted ts) (tree-one s t .0)

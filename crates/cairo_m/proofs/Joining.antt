@@ -128,7 +128,7 @@ data Ended (text : List ℕ) (ts : List Token) : Outcome → Type 0 where
 
 ended : {text : List ℕ} {n : ℕ} {ts : List Token} {o : Outcome} → TokensAre text n ts o → Ended text ts o
 ended (is-nest d) = nothing (unlike 4)
-ended (is-syntax d s) = nothing (unlike 6)
+ended (is-syntax d s i) = nothing (unlike 6)
 ended (is-suffix d t) = nothing (unlike 7)
 ended (is-node-room d t h) = nothing (unlike 5)
 ended (is-accepted d t h) = whole t

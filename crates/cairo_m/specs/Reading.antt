@@ -6,8 +6,8 @@ use lib.ListN.{length}
 use Rattle.tables.specs.Tables.{Token, Node, Diagnostic, tokenTable, nodeTable, diagnosticTable, diagnosticAt, tabulate}
 use Rattle.utf8.specs.Utf8.{Utf8}
 use Rattle.lexer.specs.Lexes.{Lexes}
-use Rattle.grammar.specs.Derive.{Input}
-use Rattle.grammar.specs.Grammar.{Tree, Deep}
+use Rattle.grammar.specs.Derive.{Input, token}
+use Rattle.grammar.specs.Grammar.{Tree, Deep, Taken, Stops}
 use Rattle.cairo_m.specs.declared.Reading.{Reading}
 use Rattle.cairo_m.specs.declared.Reading.the-variants as Reading
 use Rattle.cairo_m.specs.declared.records.Diagnostic.{Diagnostic as Diagnostic·}
@@ -20,7 +20,8 @@ pub data Outcome : Type 0 where
   long encoding : Outcome
   lexical : List Diagnostic → Outcome
   token-room : List Token → Outcome
-  nest syntax : Outcome
+  nest : Outcome
+  syntax : Diagnostic → Outcome
   suffix : List Token → Outcome
   node-room : List Node → Outcome
 
@@ -28,10 +29,15 @@ pub data Outcome : Type 0 where
 abbrev pub input : List ℕ → List Token → Input
 input text ts = record { text = text; tokens = ts }
 
+-- wish 2, reason 5, where reading stopped: over the first token that no attempt takes, or empty at the end of the text, if all are taken
+pub data StopIs (text : List ℕ) (ts : List Token) : Diagnostic → Type 0 where
+  at-token : {i : ℕ} → Stops (input text ts) i → i < length ts → StopIs text ts (record { start = token (input text ts) i .start; end = token (input text ts) i .end; reason = 5 })
+  at-end : ((i : ℕ) → i < length ts → Taken (input text ts) i) → StopIs text ts (record { start = length text; end = length text; reason = 5 })
+
 -- what the tokens ts of a text come to, in the order 5, 7, 8, 6, with n entries in the node table
 pub data TokensAre (text : List ℕ) (n : ℕ) (ts : List Token) : Outcome → Type 0 where
   is-nest : Deep (input text ts) → TokensAre text n ts nest
-  is-syntax : (Deep (input text ts) → ⊥) → ((ns : List Node) (us : List Token) → Tree (input text ts) ns us → ⊥) → TokensAre text n ts syntax
+  is-syntax : {d : Diagnostic} → (Deep (input text ts) → ⊥) → ((ns : List Node) (us : List Token) → Tree (input text ts) ns us → ⊥) → StopIs text ts d → TokensAre text n ts (syntax d)
   is-suffix : {ns : List Node} {u : Token} {us : List Token} → (Deep (input text ts) → ⊥) → Tree (input text ts) ns (u ∷ us) → TokensAre text n ts (suffix (u ∷ us))
   is-node-room : {ns : List Node} → (Deep (input text ts) → ⊥) → Tree (input text ts) ns [] → n < length ns → TokensAre text n ts (node-room ns)
   is-accepted : {ns : List Node} → (Deep (input text ts) → ⊥) → Tree (input text ts) ns [] → length ns ≤ n → TokensAre text n ts (accepted ts ns)
@@ -54,7 +60,7 @@ readingOf encoding = Reading.Encoding
 readingOf (lexical ds) = Reading.Lexical (length ds)
 readingOf (token-room ts) = Reading.TokenRoom (length ts)
 readingOf nest = Reading.Nest
-readingOf syntax = Reading.Syntax
+readingOf (syntax d) = Reading.Syntax
 readingOf (suffix us) = Reading.Suffix (length us)
 readingOf (node-room ns) = Reading.NodeRoom (length ns)
 
@@ -66,7 +72,7 @@ tokensOf encoding = []
 tokensOf (lexical ds) = []
 tokensOf (token-room ts) = []
 tokensOf nest = []
-tokensOf syntax = []
+tokensOf (syntax d) = []
 tokensOf (suffix us) = []
 tokensOf (node-room ns) = []
 
@@ -78,7 +84,7 @@ nodesOf encoding = []
 nodesOf (lexical ds) = []
 nodesOf (token-room ts) = []
 nodesOf nest = []
-nodesOf syntax = []
+nodesOf (syntax d) = []
 nodesOf (suffix us) = []
 nodesOf (node-room ns) = []
 
@@ -86,7 +92,7 @@ nodesOf (node-room ns) = []
 abbrev pub suffixError : Token → Diagnostic
 suffixError t = record { start = t .start; end = t .end; reason = 4 }
 
--- outcomes 3 and 8 list every error in text order; others have no diagnostics
+-- outcomes 3 and 8 list every error in text order, 7 has the one place where reading stopped; others have no diagnostics
 abbrev pub diagnosticsOf : Outcome → List Diagnostic
 diagnosticsOf (accepted ts ns) = []
 diagnosticsOf long = []
@@ -94,7 +100,7 @@ diagnosticsOf encoding = []
 diagnosticsOf (lexical ds) = ds
 diagnosticsOf (token-room ts) = []
 diagnosticsOf nest = []
-diagnosticsOf syntax = []
+diagnosticsOf (syntax d) = d ∷ []
 diagnosticsOf (suffix us) = map suffixError us
 diagnosticsOf (node-room ns) = []
 
@@ -127,7 +133,7 @@ pub record Counts : Type 0 where
   pub nodes : ℕ
   pub diagnostics : ℕ
 
--- the numbers of tokens and nodes, with 0 and, to tell how many entries would do, with 4 and 6; the full count of errors, with 3 and 8
+-- the numbers of tokens and nodes, with 0 and, to tell how many entries would do, with 4 and 6; the full count of errors, with 3, 7 and 8
 abbrev pub countsOf : Reading → Counts
 countsOf (Reading.Accepted t n) = record { tokens = t; nodes = n; diagnostics = 0 }
 countsOf Reading.Long = record { tokens = 0; nodes = 0; diagnostics = 0 }
@@ -136,7 +142,7 @@ countsOf (Reading.Lexical d) = record { tokens = 0; nodes = 0; diagnostics = d }
 countsOf (Reading.TokenRoom t) = record { tokens = t; nodes = 0; diagnostics = 0 }
 countsOf Reading.Nest = record { tokens = 0; nodes = 0; diagnostics = 0 }
 countsOf (Reading.NodeRoom n) = record { tokens = 0; nodes = n; diagnostics = 0 }
-countsOf Reading.Syntax = record { tokens = 0; nodes = 0; diagnostics = 0 }
+countsOf Reading.Syntax = record { tokens = 0; nodes = 0; diagnostics = 1 }
 countsOf (Reading.Suffix d) = record { tokens = 0; nodes = 0; diagnostics = d }
 
 -- the numbers of the answer r

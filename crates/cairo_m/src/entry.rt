@@ -84,7 +84,7 @@ fn diagnostic_count_of(r: Reading) -> usize
         Reading::TokenRoom(_) => 0,
         Reading::Nest => 0,
         Reading::NodeRoom(_) => 0,
-        Reading::Syntax => 0,
+        Reading::Syntax => 1,
         Reading::Suffix(d) => d,
     }
 }

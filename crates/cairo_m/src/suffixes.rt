@@ -1,4 +1,4 @@
-// From the tokens on: the tree, the literals with an unknown suffix, the room for the nodes.
+// From the tokens on: the tree, the place where reading stopped, the literals with an unknown suffix, the room for the nodes.
 use crate::Reading;
 use parser::Parsed;
 use parser::parse;
@@ -12,11 +12,32 @@ ghost use Prim.Native.Nat.{_≤_, _<_, _/_};
 ghost use lib.ListN.{length};
 ghost use Rattle.tables.specs.Tables.{tokensOf as tokensIn};
 ghost use Rattle.tables.specs.Suffix.{unknownNumerals};
-ghost use Rattle.cairo_m.specs.Suffixes.{Noted, Unknown, TokensRead};
+ghost use Rattle.cairo_m.specs.Suffixes.{Stopped, Noted, Unknown, TokensRead};
 
 const OTHER_SUFFIX: u8 = 3;
 
 const UNKNOWN_SUFFIX: u8 = 4;
+
+const STOPPED: u8 = 5;
+
+// Lists where reading stopped: at this token, or at the end of the text if there is none.
+fn stop(text: &[u8], tokens: &[u8], at: usize, diagnostics: &mut [u8])
+    requires { ⌜ length (now text) ≤ 65535 ⌝ }
+    ensures { λ r. ⌜ Stopped (now (text .entry)) (now (tokens .entry)) at (now (diagnostics .entry)) (now (diagnostics .exit)) ⌝ }
+{
+    if at < token::room(tokens) {
+        put_diagnostic(
+            diagnostics,
+            0,
+            token::start(tokens, at),
+            token::end(tokens, at),
+            STOPPED,
+        );
+        return;
+    }
+    let end = text.len() as u16;
+    put_diagnostic(diagnostics, 0, end, end, STOPPED);
+}
 
 // Lists token i if it is a numeral with an unknown suffix, as error number `count`, and answers how many there are then.
 fn note(tokens: &[u8], i: usize, diagnostics: &mut [u8], count: usize) -> usize
@@ -62,13 +83,17 @@ pub(crate) fn read_tokens(
     nodes: &mut [u8],
     diagnostics: &mut [u8],
 ) -> Reading
+    requires { ⌜ length (now text) ≤ 65535 ⌝ }
     requires { ⌜ unknown ≡ length (unknownNumerals (tokensIn (now tokens))) ⌝ }
     ensures { λ r. ⌜ TokensRead (now (text .entry)) (now (tokens .entry)) (length (now (nodes .entry))) (now (nodes .exit)) (now (diagnostics .entry)) (now (diagnostics .exit)) r ⌝ }
 {
     let parsed = parse(text, tokens, nodes);
     match parsed {
         Parsed::Deep => Reading::Nest,
-        Parsed::Syntax => Reading::Syntax,
+        Parsed::Syntax(at) => {
+            stop(text, tokens, at, diagnostics);
+            Reading::Syntax
+        }
         Parsed::Tree(count) => {
             if unknown > 0 {
                 clear_from(nodes, 0);

@@ -9,9 +9,16 @@ use Rattle.cursor.specs.Read.{Attempt}
 use Rattle.cursor.proofs.Attempts.{shift}
 
 -- a token taken from t at nest m is taken from s at nest n, as much deeper as n is
-pub again : {x : Input} {k : ℕ} {r : R} {n m : ℕ} {s t : S} → s .at ≡ t .at → m ≤ n → Attempt x (tok k & rule r) n s none → Attempt x (tok k & rule r) m t none
+pub again : {x : Input} {k : ℕ} {r : R} {n m b : ℕ} {s t : S} → s .at ≡ t .at → m ≤ n → Attempt x (tok k & rule r) n s none b b → Attempt x (tok k & rule r) m t none b b
 again {n = n} {s = s} e h c =
+    let v = c .within in
     record {
       derived = alike-then e (c .derived);
-      within = λ i j u. let q = shift n (takes-then {t = s} (sym e) u) in omega (arith, h, q .was, c .within i (n + q .deeper) (q .is));
+      within =
+          record {
+            limit = λ i j u. let q = shift n (takes-then {t = s} (sym e) u) in omega (arith, h, q .was, v .limit i (n + q .deeper) (q .is));
+            up = v .up;
+            taken = λ i f l. absurd (omega arith);
+            below = λ i j u. let q = shift n (takes-then {t = s} (sym e) u) in v .below i (n + q .deeper) (q .is);
+          };
     }

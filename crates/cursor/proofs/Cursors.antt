@@ -11,7 +11,7 @@ use borrow.Author.Tests.{eq-eqb, ne-eqb}
 use Rattle.grammar.specs.Derive.{Token, S, part, enter, next, marked, emit, closed}
 use Rattle.cursor.specs.Entries.{MAX16, MAX64}
 use Rattle.cursor.specs.Read.{Upto, Represents, begun, ending}
-use Rattle.cursor.specs.Steps.{up, past, with-mark, with-part, counted, closed-at, joining}
+use Rattle.cursor.specs.Steps.{up, with-furthest, at-nest, past, with-mark, with-part, counted, closed-at, joining}
 use Rattle.cursor.specs.declared.Cursor.{Cursor}
 
 -- ---- numbers up to a limit
@@ -44,8 +44,12 @@ upto-first {m = m} e f g = rw (test 0 (omega arith) e) (upto-if (eqb m 0) f g)
 pub seen-as : {p q : Cursor} {s : S} → p ≡ q → Represents q s → Represents p s
 seen-as e v = rw e v
 
-pub represents-enter : {p : Cursor} {s : S} (n : ℕ) → Represents p s → Represents (begun (p .at) (p .count) n) (enter s)
-represents-enter n v = record { at = v .at; first = v .at; parts = near; mark = near; from = near; to = near; count = v .count }
+pub represents-enter : {p : Cursor} {s : S} (n f : ℕ) → Represents p s → Represents (begun (p .at) (p .count) n f) (enter s)
+represents-enter n f v = record { at = v .at; first = v .at; parts = near; mark = near; from = near; to = near; count = v .count }
+
+-- how far attempts came is not the derivation's, nor is the nest
+pub represents-with : {p : Cursor} {s : S} (f n : ℕ) → Represents p s → Represents (with-furthest f (at-nest n p)) s
+represents-with f n v = record { at = v .at; first = v .first; parts = v .parts; mark = v .mark; from = v .from; to = v .to; count = v .count }
 
 pub represents-past : {p : Cursor} {s : S} → Represents p s → Represents (past p) (next s)
 represents-past v =

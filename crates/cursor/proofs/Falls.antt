@@ -16,7 +16,7 @@ use Rattle.grammar.proofs.Progress.{eats, sane?, grows}
 use Rattle.grammar.proofs.Whole.{solid, takes-one}
 use Rattle.cursor.specs.Entries.{input}
 use Rattle.cursor.specs.Read.{READING, Represents, Result, matched, failed, exceeded, Reads, still, reads, Puts, puts, Grown, grown, Step, steps, Free, free, begun}
-use Rattle.cursor.specs.Steps.{fresh-at}
+use Rattle.cursor.specs.Steps.{with-furthest, fresh-at}
 use Rattle.cursor.specs.declared.Cursor.{Cursor}
 use Rattle.cursor.proofs.Laws.{clash, some}
 
@@ -50,7 +50,7 @@ further-on text w g false c e f v u d = omega (arith, v .at, u .at, on-of (grows
 
 -- a reader leaves a token fewer where its grammar takes one
 pub on : {text w : List ℕ} {g : G} {p q : Cursor} {T U : List ℕ} → Reads g text w p T q U → Ahead (takes? g) w p q
-on (still h e f) = ahead (λ z. absurd (h (ap (λ (r : Cursor). r .status) (sym e) ∙ z)))
+on (still h e i f) = ahead (λ z. absurd (h (sym e ∙ z)))
 on {text} {w} {g} {p} {q} {T} {U} (reads z l) = ahead (λ z′. let (s, v) = some p in (z, go v (l s v) z′))
   where
     go : {s : S} → Represents p s → Result g text w p s T q U → q .status ≡ READING → ahead-of w q + one-if (takes? g) ≤ ahead-of w p
@@ -81,11 +81,15 @@ module _ {w : List ℕ} where
   at-in e = same-place (ap (λ (r : Cursor). r .at) e) (ap (λ (r : Cursor). r .status) e)
 
   -- at the first token of a rule, and before a rule
-  pub at-begin : {i c n : ℕ} {q : Cursor} → q ≡ begun i c n → Ahead false w (begun i c n) q
+  pub at-begin : {i c n f : ℕ} {q : Cursor} → q ≡ begun i c n f → Ahead false w (begun i c n f) q
   at-begin e = same-place (ap (λ (r : Cursor). r .at) e) (ap (λ (r : Cursor). r .status) e)
 
-  pub at-rule : {c n : ℕ} {p : Cursor} → p .status ≡ READING → Ahead false w p (begun (p .at) c n)
+  pub at-rule : {c n f : ℕ} {p : Cursor} → p .status ≡ READING → Ahead false w p (begun (p .at) c n f)
   at-rule z = same-place refl (sym z)
+
+  -- back where an attempt began
+  pub at-back : {f : ℕ} {p q : Cursor} → q ≡ with-furthest f p → Ahead false w p q
+  at-back e = same-place (ap (λ (r : Cursor). r .at) e) (ap (λ (r : Cursor). r .status) e)
 
   pub at-here : {p : Cursor} → Ahead false w p p
   at-here = same-place refl refl

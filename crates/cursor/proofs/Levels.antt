@@ -109,7 +109,7 @@ single (suc n) s (and-then a c) = rounds (link-round n) c (on-of (one-part s a))
 empty : {i a b c d e : ℕ} → a ≡ i → b ≡ 0 → c ≡ 0 → d ≡ 0 → e ≡ 0 → _≡_ {A = Frame} (record { first = a; parts = b; mark = c; from = d; to = e }) (record { first = i; parts = 0; mark = 0; from = 0; to = 0 })
 empty a b c d e = rw (a, b, c, d, e) refl
 
-fresh : {i c n : ℕ} (s : S) → Represents (begun i c n) s → s ≡ enter s
+fresh : {i c n f : ℕ} (s : S) → Represents (begun i c n f) s → s ≡ enter s
 fresh s v =
     ap (λ (f : Frame). record { at = s .at; nodes = s .nodes; unknown = s .unknown; frame = f })
     (empty (sym (v .first) ∙ v .at) (omega (arith, v .parts .upto)) (omega (arith, v .mark .upto)) (omega (arith, v .from .upto)) (omega (arith, v .to .upto)))
@@ -121,19 +121,19 @@ leaves {t} s a b f o =
     let g : suc (s .frame .parts) ≡ t .frame .parts = omega (arith, o .parts) in
     ap got (rw (e, g, b, f, ← o .first, ← o .mark) refl)
 
-module _ {text w : List ℕ} {b c d : ℕ} where
-  raised : {q : Cursor} {T U : List ℕ} (n : ℕ) → Reads (body (level n)) text w (begun b c d) T q U → Reads (rule (level n)) text w (begun b c d) T q U
+module _ {text w : List ℕ} {b c d f : ℕ} where
+  raised : {q : Cursor} {T U : List ℕ} (n : ℕ) → Reads (body (level n)) text w (begun b c d f) T q U → Reads (rule (level n)) text w (begun b c d f) T q U
   unfolding leave
-  raised n (still h e f) = still h e f
+  raised n (still h e i j) = still h e i j
   raised {q} {T} {U} n (reads z l) = reads z (λ s v. go s (fresh s v) (l s v))
     where
-      go : (s : S) → s ≡ enter s → Result (body (level n)) text w (begun b c d) s T q U → Result (rule (level n)) text w (begun b c d) s T q U
+      go : (s : S) → s ≡ enter s → Result (body (level n)) text w (begun b c d f) s T q U → Result (rule (level n)) text w (begun b c d f) s T q U
       go s e (matched t z m v c f) = matched t z m v (attempt-as (leaves s (ap (λ (u : S). u .frame .parts) e) (ap (λ (u : S). u .frame .mark) e) (ap (λ (u : S). u .frame .first) e) (single n s (rw e at (c .derived)))) (attempt-rule (as-deep refl) (rw e at c))) f
       go s e (failed z c f) = failed z (attempt-rule (as-deep refl) (rw e at c)) f
       go s e (exceeded z c) = exceeded z (exceeds-rule (as-deep refl) (rw e at c))
 
   -- what no operator follows is read at every further level
-  above : {k : ℕ} {q : Cursor} {T U : List ℕ} (n i : ℕ) → i ≤ n → k ≡ tokenAt w (q .at) .kind → NoOperator k → Reads (body (level i)) text w (begun b c d) T q U → Reads (body (level n)) text w (begun b c d) T q U
+  above : {k : ℕ} {q : Cursor} {T U : List ℕ} (n i : ℕ) → i ≤ n → k ≡ tokenAt w (q .at) .kind → NoOperator k → Reads (body (level i)) text w (begun b c d f) T q U → Reads (body (level n)) text w (begun b c d f) T q U
   unfolding body
   above {q = q} {T = T} {U = U} zero i h e o y = let f : i ≡ 0 = omega arith in rw f at y
   above {q = q} {T = T} {U = U} (suc n) i h e o y =
@@ -143,26 +143,26 @@ module _ {text w : List ℕ} {b c d : ℕ} where
       ]
 
 -- the loop over the levels: what is read as level 0 up to p₀ is read as level i up to q
-pub record Climbing (text w : List ℕ) (b c d n : ℕ) (p₀ : Cursor) (T₀ : List ℕ) (i : ℕ) (q : Cursor) (T : List ℕ) : Type 0 where
-  pub up : (U : List ℕ) → Reads (body (level 0)) text w (begun b c d) U p₀ T₀ → Reads (body (level i)) text w (begun b c d) U q T
+pub record Climbing (text w : List ℕ) (b c d f n : ℕ) (p₀ : Cursor) (T₀ : List ℕ) (i : ℕ) (q : Cursor) (T : List ℕ) : Type 0 where
+  pub up : (U : List ℕ) → Reads (body (level 0)) text w (begun b c d f) U p₀ T₀ → Reads (body (level i)) text w (begun b c d f) U q T
   pub below : i ≤ n
   pub on : Ahead false w p₀ q
   pub kept : length T ≡ length T₀
 
-module _ {text w : List ℕ} {b c d n : ℕ} where
-  pub climbing-none : {p₀ : Cursor} {T₀ : List ℕ} → Climbing text w b c d n p₀ T₀ 0 p₀ T₀
+module _ {text w : List ℕ} {b c d f n : ℕ} where
+  pub climbing-none : {p₀ : Cursor} {T₀ : List ℕ} → Climbing text w b c d f n p₀ T₀ 0 p₀ T₀
   climbing-none = record { up = λ U y. y; below = omega arith; on = at-here; kept = refl }
 
-  pub climbing-more : {p₀ q r : Cursor} {T₀ T U : List ℕ} (i : ℕ) → Climbing text w b c d n p₀ T₀ i q T → i < n → Reads (many (link i)) text w q T r U → length U ≡ length T → Climbing text w b c d n p₀ T₀ (i + 1) r U
+  pub climbing-more : {p₀ q r : Cursor} {T₀ T U : List ℕ} (i : ℕ) → Climbing text w b c d f n p₀ T₀ i q T → i < n → Reads (many (link i)) text w q T r U → length U ≡ length T → Climbing text w b c d f n p₀ T₀ (i + 1) r U
   unfolding body
   climbing-more i c h y k =
       rw (add-one i) (record { up = λ X u. raised i (c .up X u) then y; below = omega arith; on = weaken (c .on and-on further-on y); kept = k ∙ c .kept })
 
-  pub climbed : {p₀ q s : Cursor} {T₀ T U : List ℕ} (i : ℕ) → s ≡ begun b c d → Climbing text w b c d n p₀ T₀ i q T → n ≤ i → Reads (rule unary & many cast) text w s U p₀ T₀ → Reads (body (level n)) text w s U q T
+  pub climbed : {p₀ q s : Cursor} {T₀ T U : List ℕ} (i : ℕ) → s ≡ begun b c d f → Climbing text w b c d f n p₀ T₀ i q T → n ≤ i → Reads (rule unary & many cast) text w s U p₀ T₀ → Reads (body (level n)) text w s U q T
   unfolding body
   climbed {U = U} i e c h y = let f : i ≡ n = omega (arith, c .below) in rw e (rw f at (c .up U (rw e at y)))
 
-  pub climbed-over : {k : ℕ} {p₀ q s : Cursor} {T₀ T U : List ℕ} (i : ℕ) → s ≡ begun b c d → Climbing text w b c d n p₀ T₀ i q T → k ≡ tokenAt w (q .at) .kind → NoOperator k
+  pub climbed-over : {k : ℕ} {p₀ q s : Cursor} {T₀ T U : List ℕ} (i : ℕ) → s ≡ begun b c d f → Climbing text w b c d f n p₀ T₀ i q T → k ≡ tokenAt w (q .at) .kind → NoOperator k
       → Reads (rule unary & many cast) text w s U p₀ T₀ → Reads (body (level n)) text w s U q T
   unfolding body
   climbed-over {U = U} i e c k o y = rw e (above n i (c .below) k o (c .up U (rw e at y)))

@@ -1,5 +1,5 @@
 -- Lists, which a function reads with a loop of its own. Assumes nothing.
-use mathlib.Core.Path.{_≡_, refl, sym, _∙_}
+use mathlib.Core.Path.{_≡_, refl, sym, ap, _∙_}
 use mathlib.Core.Bool.{false}
 use mathlib.Core.List.{List}
 use Prim.Native.Nat.{ℕ}
@@ -16,9 +16,10 @@ use Rattle.grammar.proofs.Unique.{unique, apart}
 use Rattle.grammar.proofs.Progress.{sane?}
 use Rattle.grammar.proofs.Whole.{solid}
 use Rattle.cursor.specs.Entries.{input}
-use Rattle.cursor.specs.Read.{READING, FAILED, Reads, still, Step}
+use Rattle.cursor.specs.Read.{READING, FAILED, reached, Reads, still, Step}
+use Rattle.cursor.specs.Steps.{rewound}
 use Rattle.cursor.specs.declared.Cursor.{Cursor}
-use Rattle.cursor.proofs.Laws.{clash, status-as, idle, nothing, _then_, first, absent, pass, many-miss, fine, opt-never, never-failed, one-step}
+use Rattle.cursor.proofs.Laws.{clash, status-as, no-less, reread, idle, nothing, _then_, first, absent, pass, many-miss, fine, opt-never, never-failed, one-step}
 use Rattle.cursor.proofs.Falls.{Ahead, on, on-step, _and-on_, at-here, was, weaken}
 use Rattle.cursor.proofs.Loops.{Looping, rounds-begin, rounds-next, rounds-end, rounds-miss, rounds-off}
 
@@ -64,12 +65,13 @@ module _ {text w : List ℕ} where
       go (past-comma y₀ n₀ L₀ c₀ m) y = past-comma y₀ n₀ (rounds-next L₀ (one-step c₀ then y) n (h ∙ L₀ .kept)) c (comma-taken {T = U} e f (one-step c) n)
 
   -- the next fails
-  pub listing-none : {g : G} {p₀ p q : Cursor} {T₀ T U : List ℕ} → Listing text w g p₀ T₀ p T → p .status ≡ READING → Reads g text w p T q U → q .status ≡ FAILED → Reads (list g) text w p₀ T₀ p U
-  listing-none {g} {p₀} {p} {q} {T₀} {T} {U} L z y o = go (L .so-far) y
+  pub listing-none : {g : G} {p₀ p p′ q : Cursor} {T₀ T U : List ℕ} → Listing text w g p₀ T₀ p T → p .status ≡ READING → Reads g text w p T q U → q .status ≡ FAILED → p′ ≡ rewound p q → Reads (list g) text w p₀ T₀ p′ U
+  listing-none {g} {p₀} {p} {p′} {q} {T₀} {T} {U} L z y o e = go (L .so-far) y
     where
-      go : SoFar text w g p₀ T₀ p T → Reads g text w p T q U → Reads (list g) text w p₀ T₀ p U
-      go (none-yet i j) y = rw i (absent ((rw (i, j) at y) then idle (λ z. clash 1 0 o z (omega arith))) o)
-      go (past-comma y₀ n₀ L₀ c₀ m) y = list-of y₀ n₀ (rounds-end L₀ (was (on-step c₀) z) (one-step c₀ then y) o) (first (one-step c₀) m)
+      go : SoFar text w g p₀ T₀ p T → Reads g text w p T q U → Reads (list g) text w p₀ T₀ p′ U
+      go (none-yet i j) y = absent ((rw (i, j) at y) then idle (λ z. clash 1 0 o z (omega arith))) o (rw i at e)
+      go (past-comma y₀ n₀ L₀ c₀ m) y =
+          list-of y₀ n₀ (rounds-end L₀ (was (on-step c₀) z) (one-step c₀ then y) o refl) (rw e (first (reread (reached q) (no-less y o) (one-step c₀)) m))
 
   -- no comma follows
   pub listing-miss : {k : ℕ} {g : G} {p₀ p q : Cursor} {T₀ T U : List ℕ} → Yes (sane? solid g) → Listing text w g p₀ T₀ p T → Reads g text w p T q U → (q .status ≡ FAILED → ⊥) → length U ≡ length T
@@ -85,16 +87,16 @@ module _ {text w : List ℕ} where
   listing-off {g} {p₀} {p} {T₀} {T} L h = go (L .so-far)
     where
       go : SoFar text w g p₀ T₀ p T → Reads (list g) text w p₀ T₀ p T
-      go (none-yet i j) = still (λ z. h (status-as i z)) i j
+      go (none-yet i j) = still (λ z. h (status-as i z)) (status-as i refl) (ap reached i) j
       go (past-comma y₀ n₀ L₀ c₀ m) = list-of y₀ n₀ (rounds-off (rounds-next L₀ (one-step c₀ then idle h) m (L₀ .kept)) h) (idle h)
 
   -- ---- it is not
-  pub entries-none : {g : G} {p q : Cursor} {T U : List ℕ} → Reads g text w p T q U → q .status ≡ FAILED → Reads (entries g) text w p T p U
+  pub entries-none : {g : G} {p p′ q : Cursor} {T U : List ℕ} → Reads g text w p T q U → q .status ≡ FAILED → p′ ≡ rewound p q → Reads (entries g) text w p T p′ U
   entries-none y o = absent (y then idle (λ z. clash 1 0 o z (omega arith))) o
 
-  pub entries-end : {g : G} {p q r r′ : Cursor} {T U W X : List ℕ} → Reads g text w p T q U → (q .status ≡ FAILED → ⊥) → Looping text w (another g) q U r W → r .status ≡ READING
-      → Reads (another g) text w r W r′ X → r′ .status ≡ FAILED → Reads (entries g) text w p T r X
-  entries-end y n L z u o = first (y then rounds-end L z u o) (λ f. clash 0 1 z f (omega arith))
+  pub entries-end : {g : G} {p q r e r′ : Cursor} {T U W X : List ℕ} → Reads g text w p T q U → (q .status ≡ FAILED → ⊥) → Looping text w (another g) q U r W → r .status ≡ READING
+      → Reads (another g) text w r W r′ X → r′ .status ≡ FAILED → e ≡ rewound r r′ → Reads (entries g) text w p T e X
+  entries-end y n L z u o e = first (y then rounds-end L z u o e) (λ f. clash 0 1 z (status-as (sym e) f) (omega arith))
 
   pub entries-off : {g : G} {p q r : Cursor} {T U W : List ℕ} → Reads g text w p T q U → (q .status ≡ FAILED → ⊥) → Looping text w (another g) q U r W → (r .status ≡ READING → ⊥)
       → Reads (entries g) text w p T r W

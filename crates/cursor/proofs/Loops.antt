@@ -12,10 +12,11 @@ use Rattle.grammar.proofs.Progress.{sane?}
 use Rattle.grammar.proofs.Whole.{solid}
 use Rattle.grammar.proofs.First.{empties, firsts, Absent, absent?, absent-of}
 use Rattle.grammar.specs.Derive.{G, _&_, many, S}
-use Rattle.cursor.specs.Read.{READING, FAILED, Represents, Result, matched, failed, exceeded, Reads, still, reads}
+use Rattle.cursor.specs.Read.{READING, FAILED, Represents, reached, Result, matched, failed, exceeded, Reads, still, reads}
+use Rattle.cursor.specs.Steps.{rewound}
 use Rattle.cursor.specs.declared.Cursor.{Cursor}
-use Rattle.cursor.proofs.Attempts.{attempt-no-more, attempt-one-more, exceeds-now, exceeds-later}
-use Rattle.cursor.proofs.Laws.{clash, status-as, idle, joined, many-miss, _then_}
+use Rattle.cursor.proofs.Attempts.{attempt-from, attempt-no-more, attempt-one-more, exceeds-now, exceeds-later}
+use Rattle.cursor.proofs.Laws.{clash, status-as, represents-with, back, idle, joined, many-miss, _then_}
 use Rattle.cursor.proofs.Falls.{Ahead, one-if, on, _and-on_, at-here, weaken}
 
 -- so many rounds after p₀ and T₀: what `many g` reads from there on it reads from p₀; how far on that is; the table's length
@@ -39,23 +40,23 @@ module _ {text w : List ℕ} where
               fails = λ z s c. absurd (n z);
               exceeds = λ s c. exceeds-now c;
               joins = λ s t o c d. attempt-one-more c d;
-              over = λ s t c d. exceeds-later (c .derived) d;
+              over = λ s t d e. exceeds-later d e;
             }) y u);
         on = weaken (L .on and-on on y);
         kept = k;
       }
 
   -- a round that failed is the end
-  pub rounds-end : {g : G} {p₀ p q : Cursor} {T₀ T U : List ℕ} → Looping text w g p₀ T₀ p T → p .status ≡ READING → Reads g text w p T q U → q .status ≡ FAILED → Reads (many g) text w p₀ T₀ p U
-  rounds-end {g} {p₀} {p} {q} {T₀} {T} {U} L z y o = L .rounds p U (last y)
+  pub rounds-end : {g : G} {p₀ p p′ q : Cursor} {T₀ T U : List ℕ} → Looping text w g p₀ T₀ p T → p .status ≡ READING → Reads g text w p T q U → q .status ≡ FAILED → p′ ≡ rewound p q → Reads (many g) text w p₀ T₀ p′ U
+  rounds-end {g} {p₀} {p} {p′} {q} {T₀} {T} {U} L z y o e = L .rounds p′ U (rw e (last y))
     where
-      none-more : (s : S) → Represents p s → Result g text w p s T q U → Result (many g) text w p s T p U
+      none-more : (s : S) → Represents p s → Result g text w p s T q U → Result (many g) text w p s T (rewound p q) U
       none-more s v (matched t z′ n v′ c f) = clash 0 1 z′ o (omega arith)
-      none-more s v (failed z′ c f) = matched s z refl v (attempt-no-more c) f
+      none-more s v (failed z′ c f) = matched s z refl (represents-with (reached q) (p .nest) v) (attempt-from refl (sym (back p q (c .within .up))) (attempt-no-more c)) f
       none-more s v (exceeded z′ c) = clash 2 1 z′ o (omega arith)
 
-      last : Reads g text w p T q U → Reads (many g) text w p T p U
-      last (still n e f) = absurd (n z)
+      last : Reads g text w p T q U → Reads (many g) text w p T (rewound p q) U
+      last (still n e i f) = absurd (n z)
       last (reads _ l) = reads z (λ s v. none-more s v (l s v))
 
   -- where none can begin so, too
@@ -104,16 +105,16 @@ module _ {text w : List ℕ} {g h : G} where
       go (not-yet f i j) = absurd (true-false (sym f ∙ t))
       go (led f y₀ L₀) = led f y₀ (rounds-next L₀ y n (k ∙ L₀ .kept))
 
-  pub leading-end : {p₀ p q : Cursor} {T₀ T U : List ℕ} {b : Bool} → Leading text w g h p₀ T₀ b p T → b ≡ false → p .status ≡ READING → Reads h text w p T q U → q .status ≡ FAILED → Reads (g & many h) text w p₀ T₀ p U
-  leading-end {p₀} {p} {q} {T₀} {T} {U} {b} L t z y o = go (L .so-far)
+  pub leading-end : {p₀ p p′ q : Cursor} {T₀ T U : List ℕ} {b : Bool} → Leading text w g h p₀ T₀ b p T → b ≡ false → p .status ≡ READING → Reads h text w p T q U → q .status ≡ FAILED → p′ ≡ rewound p q → Reads (g & many h) text w p₀ T₀ p′ U
+  leading-end {p₀} {p} {p′} {q} {T₀} {T} {U} {b} L t z y o e = go (L .so-far)
     where
-      go : Led text w g h p₀ T₀ b p T → Reads (g & many h) text w p₀ T₀ p U
+      go : Led text w g h p₀ T₀ b p T → Reads (g & many h) text w p₀ T₀ p′ U
       go (not-yet f i j) = absurd (true-false (sym f ∙ t))
-      go (led f y₀ L₀) = y₀ then rounds-end L₀ z y o
+      go (led f y₀ L₀) = y₀ then rounds-end L₀ z y o e
 
   pub leading-off : {p₀ p : Cursor} {T₀ T : List ℕ} {b : Bool} → Leading text w g h p₀ T₀ b p T → (p .status ≡ READING → ⊥) → Reads (g & many h) text w p₀ T₀ p T
   leading-off {p₀} {p} {T₀} {T} {b} L n = go (L .so-far)
     where
       go : Led text w g h p₀ T₀ b p T → Reads (g & many h) text w p₀ T₀ p T
-      go (not-yet f i j) = still (λ z. n (status-as i z)) i j
+      go (not-yet f i j) = still (λ z. n (status-as i z)) (status-as i refl) (ap reached i) j
       go (led f y₀ L₀) = y₀ then rounds-off L₀ n

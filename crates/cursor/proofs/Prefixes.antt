@@ -14,7 +14,7 @@ use Rattle.grammar.specs.Grammar.{body, atom, postfix, op}
 use Rattle.cursor.specs.Read.{LIMIT, READING, DEEP, Reads, Puts, puts}
 use Rattle.cursor.specs.Steps.{Halted, was-halted, halts, Left, fresh-at, signed-at, Restarted, restarts, restarts-deep, Prefix, no-prefix, a-not, a-minus, Prefixes, Unwound, too-deep, advanced}
 use Rattle.cursor.specs.declared.Cursor.{Cursor}
-use Rattle.cursor.proofs.Laws.{clash, only, pass, _then_, by-rule, idle}
+use Rattle.cursor.proofs.Laws.{clash, status-as, only, pass, _then_, by-rule, idle}
 use Rattle.cursor.proofs.Falls.{Ahead, ahead, ahead-of}
 use Rattle.cursor.proofs.Steps.{stopped, marks, halted, past-all}
 
@@ -118,13 +118,13 @@ at-operand {p = p} {q = q} a (restarts-deep h n l) = ahead (λ z. never l z)
   where
     never : {A : Type 0} → Halted DEEP p q → q .status ≡ READING → A
     never (was-halted n e) z = absurd (n (ap (λ (r : Cursor). r .status) (sym e) ∙ z))
-    never (halts i e) z = clash 2 0 e z (omega arith)
+    never (halts i e) z = clash 2 0 (status-as e refl) z (omega arith)
 at-operand a (restarts h i) = rw i (ahead (λ z. (z, omega (arith, a .up))))
 
-pub just-entered : {a c n s : ℕ} {q : Cursor} → q ≡ record { at = a; count = c; nest = n; status = s; first = a; parts = 0; mark = 0; from = 0; to = 0 } → fresh-at (q .at) q ≡ q
+pub just-entered : {a c f n s : ℕ} {q : Cursor} → q ≡ record { at = a; count = c; furthest = f; nest = n; status = s; first = a; parts = 0; mark = 0; from = 0; to = 0 } → fresh-at (q .at) q ≡ q
 just-entered e = rw e refl
 
-pub reading-in : {a c n s : ℕ} {q : Cursor} → q ≡ record { at = a; count = c; nest = n; status = s; first = a; parts = 0; mark = 0; from = 0; to = 0 } → s ≡ READING → q .status ≡ READING
+pub reading-in : {a c f n s : ℕ} {q : Cursor} → q ≡ record { at = a; count = c; furthest = f; nest = n; status = s; first = a; parts = 0; mark = 0; from = 0; to = 0 } → s ≡ READING → q .status ≡ READING
 reading-in e z = rw e z
 
 module _ {text w : List ℕ} {p : Cursor} {e : ℕ} (z : p .status ≡ READING) (a : Prefixes w (p .at) e) where
@@ -135,14 +135,14 @@ module _ {text w : List ℕ} {p : Cursor} {e : ℕ} (z : p .status ≡ READING) 
   unary-deep {q} {T} (restarts-deep h d l) n = go (ℕ-discrete (tokenAt w (p .at) .kind) NOT) (ℕ-discrete (tokenAt w (p .at) .kind) MINUS)
     where
       go : Dec (tokenAt w (p .at) .kind ≡ NOT) → Dec (tokenAt w (p .at) .kind ≡ MINUS) → Reads (body unary) text w p T q T
-      go (yes u) _ = only refl u tt (only refl u tt (stopped (omega arith) (too-deep z u d (halted z l)) n) then idle n then idle n)
-      go (no u) (yes v) = only refl v tt (pass refl (u, tt) tt (stopped (omega arith) (too-deep z v d (halted z l)) n) then idle n then idle n)
+      go (yes u) _ = only refl u tt (only refl u tt (stopped (omega arith) (too-deep z u d (status-as (halted z l) refl)) n) then idle n then idle n)
+      go (no u) (yes v) = only refl v tt (pass refl (u, tt) tt (stopped (omega arith) (too-deep z v d (status-as (halted z l) refl)) n) then idle n then idle n)
       go (no u) (no v) = absurd (a .each (p .at) (omega arith) h 0 (no-prefix refl u v) refl)
 
   -- prefixes, if any, and their operand
   pub unary-reads : {q₀ q r : Cursor} {T U W : List ℕ} → fresh-at (p .at) p ≡ p → Restarted e p q₀ → q₀ .status ≡ READING → Reads (atom & many postfix) text w q₀ T q U → Unwound w p e q U r W → Reads (body unary) text w p T r W
   unfolding body
-  unary-reads f (restarts-deep h d l) i o u = clash 2 0 (halted z l) i (omega arith)
+  unary-reads f (restarts-deep h d l) i o u = clash 2 0 (status-as (halted z l) refl) i (omega arith)
   unary-reads {T = T} f (restarts h j) i o u = rw f at (u .up a z h text T (pass refl (off (a .over)) tt (rw j at o)))
     where
       off : Prefix (tokenAt w e .kind) 0 → (tokenAt w e .kind ≡ NOT → ⊥) × ((tokenAt w e .kind ≡ MINUS → ⊥) × Unit {0})

@@ -11,15 +11,15 @@ use borrow.Author.Tests.{eq-eqb, ne-eqb}
 use Rattle.tables.specs.Tables.{Token, encodeNode, tokenAt, stored}
 use Rattle.tables.specs.TokenKinds.{IDENT}
 use Rattle.tables.proofs.Laws.{number-none, tokens-at}
-use Rattle.grammar.specs.Derive.{Input, token, Act, leaf, Start, firstToken, firstPart, End, lastToken, lastPart, callEnd, take, close, tick, alone, step, S, Out, got, none, next, marked, emit, starts, ends, closed, act, yields, stepped, here, typeName, spelling}
+use Rattle.grammar.specs.Derive.{Input, token, Act, leaf, Start, firstToken, firstPart, End, lastToken, lastPart, callEnd, take, close, tick, alone, step, S, Out, got, none, next, marked, emit, starts, ends, closed, act, yields, stepped, Takes, here, typeName, spelling}
 use Rattle.grammar.specs.Kinds.{Named}
-use Rattle.grammar.specs.Grammar.{tok, op, namedType}
+use Rattle.grammar.specs.Grammar.{body, nests, tok, op, namedType}
 use Rattle.grammar.proofs.Unique.{unique}
 use Rattle.cursor.specs.Entries.{input, MAX16, MAX64}
-use Rattle.cursor.specs.Read.{Attempt, Exceeds, Holds, READING, FAILED, Upto, Represents, Result, matched, failed, exceeded, Reads, still, reads, Puts, puts}
-use Rattle.cursor.specs.Steps.{Wanted, up, Halted, was-halted, halts, Advanced, not-reading, not-there, too-deep, advanced, with-mark, with-part, counted, with-unknown, Emitted, emitted, Closed, not-closed, closes}
+use Rattle.cursor.specs.Read.{Attempt, Exceeds, Holds, READING, FAILED, Upto, Represents, reached, Result, matched, failed, exceeded, Reads, still, reads, Puts, puts}
+use Rattle.cursor.specs.Steps.{Wanted, up, with-status, Halted, was-halted, halts, Advanced, not-reading, not-there, too-deep, advanced, with-mark, with-part, counted, with-unknown, Emitted, emitted, Closed, not-closed, closes}
 use Rattle.cursor.specs.declared.Cursor.{Cursor}
-use Rattle.cursor.proofs.Attempts.{attempt-as, attempt-take, attempt-absent, attempt-step, exceeds-by, exceeds-take}
+use Rattle.cursor.proofs.Attempts.{within-as, attempt-as, attempt-from, attempt-take, attempt-absent, attempt-step, exceeds-by, exceeds-take}
 use Rattle.cursor.proofs.Cursors.{upto-as, near, test, upto-up, seen-as, represents-past, represents-mark, represents-emit, represents-closed}
 use Rattle.cursor.proofs.Holding.{entry-is, holds-more}
 use Rattle.cursor.proofs.Laws.{clash, status-as, kept, idle}
@@ -32,9 +32,12 @@ pub unwrapped : {A : Type 0} (k : ℕ) → 1 ≤ k → Wanted k A → A
 unwrapped zero h a = absurd (omega arith)
 unwrapped (suc k) h a = a
 
-pub halted : {k : ℕ} {p r : Cursor} → p .status ≡ READING → Halted k p r → r .status ≡ k
+pub halted : {k : ℕ} {p r : Cursor} → p .status ≡ READING → Halted k p r → r ≡ with-status k p
 halted z (was-halted n e) = absurd (n z)
 halted z (halts h e) = e
+
+pub reached-of : {p q : Cursor} → p ≡ q → reached p ≡ reached q
+reached-of e = ap reached e
 
 nest-of : {p q : Cursor} → p ≡ q → p .nest ≡ q .nest
 nest-of e = ap (λ (r : Cursor). r .nest) e
@@ -79,42 +82,42 @@ module _ {text w : List ℕ} {k : ℕ} {p q : Cursor} where
   -- it is not there, or too deep
   pub stopped : {a : Act} {T : List ℕ} → 1 ≤ k → Advanced w k p q → (q .status ≡ READING → ⊥) → Reads (step (take k a)) text w p T q T
   unfolding yields
-  stopped h (not-reading n e) z = still n e refl
+  stopped h (not-reading n e) z = still n (status-as e refl) (reached-of e) refl
   stopped h (not-there y n e) z =
       reads y (λ s v.
       let miss : token (input text w) (s .at) .kind ≡ k → ⊥ = λ i. n h (rw (next-token text w v) at i) in
-      failed e (attempt-absent miss) (λ H. H))
+      failed (status-as e refl) (attempt-from refl (sym (reached-of e)) (attempt-absent miss)) (λ H. H))
   stopped h (too-deep y i l e) z = reads y (λ s v. exceeded e (exceeds-take (rw (next-token text w v) i) l))
   stopped h (advanced y i l b e) z = absurd (z (status-as e y))
 
   -- it is taken
-  taken : {a : Act} {r : Cursor} {T U : List ℕ} → Advanced w k p q → q .status ≡ READING → r .status ≡ q .status → r .nest ≡ q .nest
+  taken : {a : Act} {r : Cursor} {T U : List ℕ} → Advanced w k p q → q .status ≡ READING → r .status ≡ q .status → r .nest ≡ q .nest → reached r ≡ reached q
       → ((s : S) → Represents q (next s) → Acts text w a p s T r U) → Reads (step (take k a)) text w p T r U
   unfolding yields
-  taken (not-reading n e) z f g l = absurd (n (status-as (sym e) z))
-  taken (not-there y n e) z f g l = clash 1 0 e z (omega arith)
-  taken (too-deep y i m e) z f g l = clash 2 0 e z (omega arith)
-  taken (advanced y i m b e) z f g l =
+  taken (not-reading n e) z f g h l = absurd (n (status-as (sym e) z))
+  taken (not-there y n e) z f g h l = clash 1 0 (status-as e refl) z (omega arith)
+  taken (too-deep y i m e) z f g h l = clash 2 0 e z (omega arith)
+  taken (advanced y i m b e) z f g h l =
       reads y (λ s v.
       let o = l s (seen-as e (represents-past v)) in
-      matched (o .to) (f ∙ z) (g ∙ nest-of e) (o .represents) (attempt-as (rw (next-token text w v, eq-eqb _ _ i) (o .acted)) (attempt-take m)) (o .holds))
+      matched (o .to) (f ∙ z) (g ∙ nest-of e) (o .represents) (attempt-as (rw (next-token text w v, eq-eqb _ _ i) (o .acted)) (attempt-take (rw (next-token text w v) i) m (omega (arith, v .at)) (omega (arith, v .at, h, reached-of e)))) (o .holds))
 
   pub took : {T : List ℕ} → 1 ≤ k → Advanced w k p q → Reads (tok k) text w p T q T
   took h y =
       elim (ℕ-discrete (q .status) 0) [
-        | yes z ↦ taken y z refl refl (λ s v. record { to = next s; acted = refl; represents = v; holds = λ H. H })
+        | yes z ↦ taken y z refl refl refl (λ s v. record { to = next s; acted = refl; represents = v; holds = λ H. H })
         | no n ↦ stopped h y n
       ]
 
   pub marks : {m : ℕ} {T : List ℕ} → Advanced w k p q → q .status ≡ READING → Reads (op k m) text w p T (with-mark m q) T
-  marks {m} y z = taken y z refl refl (λ s v. record { to = marked m (next s); acted = refl; represents = represents-mark near v; holds = λ H. H })
+  marks {m} y z = taken y z refl refl refl (λ s v. record { to = marked m (next s); acted = refl; represents = represents-mark near v; holds = λ H. H })
 
   pub leaves : {n d v a b : ℕ} {c : Act} {r : Cursor} {T U : List ℕ} → Advanced w k p q → q .status ≡ READING → a ≡ tokenAt w (p .at) .start → b ≡ tokenAt w (p .at) .end
       → Bounds a b 0 v T → r ≡ with-part a b (counted q) → U ≡ stored 16 T (q .count) (encodeNode (record { kind = n; base = d; start = a; end = b; children = 0; value = v }))
       → (u : S → List Token) → ((s : S) → act (input text w) c (tokenAt w (p .at)) (next s) ≡ got (with-unknown (u s) (emit (tokenAt w (p .at)) n d v (next s))))
       → Reads (step (take k c)) text w p T r U
   leaves {n} {d} {v} y z f g l i j u h =
-      taken y z (status-as i refl) (nest-of i) (λ s o.
+      taken y z (status-as i refl) (nest-of i) (reached-of i) (λ s o.
       record {
         to = with-unknown (u s) (emit (tokenAt w (p .at)) n d v (next s));
         acted = h s;
@@ -135,29 +138,32 @@ abbrev pub but : List Token → Out → Out
 but u (got t) = got (with-unknown u t)
 but u none = none
 
+same-token : {x : Input} {k : ℕ} {a b : Act} {n : ℕ} {s : S} (i m : ℕ) → Takes body x nests i m (step (take k a)) n s → Takes body x nests i m (step (take k b)) n s
+same-token i m (here e f h) = here e f h
+
 module _ {x : Input} {k : ℕ} {a b : Act} {n : ℕ} {s : S} where
   -- what b makes of the token is f of what a does
-  follows : {o : Out} (f : Out → Out) → f none ≡ none → act x b (token x (s .at)) (next s) ≡ f (act x a (token x (s .at)) (next s))
-      → Attempt x (step (take k a)) n s o → Attempt x (step (take k b)) n s (f o)
+  follows : {o : Out} {a₀ b₀ : ℕ} (f : Out → Out) → f none ≡ none → act x b (token x (s .at)) (next s) ≡ f (act x a (token x (s .at)) (next s))
+      → Attempt x (step (take k a)) n s o a₀ b₀ → Attempt x (step (take k b)) n s (f o) a₀ b₀
   unfolding yields
   follows f z e c =
       attempt-as
       (rw e (go (eqb (token x (s .at) .kind) k) (act x a (token x (s .at)) (next s))) ∙ ap f (unique stepped (c .derived)))
-      (record { derived = stepped; within = λ i m t. elim t [ here h h′ h″ ↦ c .within i m (here h h′ h″) ] })
+      (record { derived = stepped; within = within-as same-token same-token (c .within) })
     where
       go : (c : Bool) (o : Out) → cond c (f o) none ≡ f (cond c o none)
       go true o = refl
       go false o = sym z
 
   exceeds-too : Exceeds x (step (take k a)) n s → Exceeds x (step (take k b)) n s
-  exceeds-too = exceeds-by (λ i m l t. elim t [ here h h′ h″ ↦ here h h′ h″ ])
+  exceeds-too = exceeds-by (λ i m l. same-token i m)
 
 module _ {text w : List ℕ} {k : ℕ} {a b : Act} {p : Cursor} where
   -- b is a, but for the literals with an unknown suffix
   pub same-act : {r : Cursor} {T U : List ℕ} (u : S → List Token)
       → ((s : S) → act (input text w) b (tokenAt w (p .at)) (next s) ≡ but (u s) (act (input text w) a (tokenAt w (p .at)) (next s)))
       → Reads (step (take k a)) text w p T r U → Reads (step (take k b)) text w p T r U
-  same-act u h (still n e f) = still n e f
+  same-act u h (still n e i f) = still n e i f
   same-act {r} {T} {U} u h (reads z l) = reads z (λ s v. go s v (l s v))
     where
       go : (s : S) → Represents p s → Result (step (take k a)) text w p s T r U → Result (step (take k b)) text w p s T r U
@@ -169,14 +175,14 @@ module _ {text w : List ℕ} {k : ℕ} {a b : Act} {p : Cursor} where
   -- b turns down what a took
   pub turned-down : {q r : Cursor} {T U : List ℕ} → ((s : S) → act (input text w) b (tokenAt w (p .at)) (next s) ≡ none)
       → Reads (step (take k a)) text w p T q U → Halted FAILED q r → Reads (step (take k b)) text w p T r U
-  turned-down d (still n e f) (was-halted m i) = still n (i ∙ e) f
-  turned-down d (still n e f) (halts y i) = absurd (n (status-as (sym e) y))
+  turned-down d (still n e j f) (was-halted m i) = still n (status-as i e) (reached-of i ∙ j) f
+  turned-down d (still n e j f) (halts y i) = absurd (n (sym e ∙ y))
   turned-down {q} {r} {T} {U} d (reads z l) h = reads z (λ s v. go s v (l s v) h)
     where
       go : (s : S) → Represents p s → Result (step (take k a)) text w p s T q U → Halted FAILED q r → Result (step (take k b)) text w p s T r U
       go s v (matched t z n o c f) (was-halted m e) = absurd (m z)
-      go s v (matched t z n o c f) (halts y e) = failed e (follows (λ _. none) refl (rw (next-token text w v) (d s)) c) (λ H. kept (c .derived) (f H))
-      go s v (failed z c f) (was-halted m e) = failed (status-as e z) (follows (λ _. none) refl (rw (next-token text w v) (d s)) c) f
+      go s v (matched t z n o c f) (halts y e) = failed (status-as e refl) (attempt-from refl (sym (reached-of e)) (follows (λ _. none) refl (rw (next-token text w v) (d s)) c)) (λ H. kept (c .derived) (f H))
+      go s v (failed z c f) (was-halted m e) = failed (status-as e z) (attempt-from refl (sym (reached-of e)) (follows (λ _. none) refl (rw (next-token text w v) (d s)) c)) f
       go s v (failed z c f) (halts y e) = clash 1 0 z y (omega arith)
       go s v (exceeded z c) (was-halted m e) = exceeded (status-as e z) (exceeds-too c)
       go s v (exceeded z c) (halts y e) = clash 2 0 z y (omega arith)
@@ -212,11 +218,11 @@ module _ {text w : List ℕ} {p : Cursor} where
   pub gathers : {k n m : ℕ} {a : Start} {b : End} {r : Cursor} {T U : List ℕ} → Closed k n m p T r U → Bounds n m (p .parts) (p .mark) T
       → ((s : S) → Represents p s → Upto MAX16 n (starts (input text w) a s) × Upto MAX16 m (ends (input text w) b s)) → Reads (step (close k a b)) text w p T r U
   unfolding yields
-  gathers (not-closed n e f) l h = still n e f
+  gathers (not-closed n e f) l h = still n (status-as e refl) (reached-of e) f
   gathers {k} {a = a} {b = b} (closes z e f) l h =
       reads z (λ s v.
       let (i, j) = h s v in
-      matched (closed k (starts (input text w) a s) (ends (input text w) b s) s) (status-as e z) (nest-of e) (seen-as e (represents-closed k i j v)) (attempt-step tt)
+      matched (closed k (starts (input text w) a s) (ends (input text w) b s) s) (status-as e z) (nest-of e) (seen-as e (represents-closed k i j v)) (attempt-from refl (sym (reached-of e)) (attempt-step tt))
       (λ H. rw (f, entry-is k 0 (l .start-fits) (l .end-fits) (l .children-fits) (l .value-fits) i j (v .parts) (v .mark)) (holds-more _ (omega arith) (v .count) H)))
 
   pub ticks : {m : ℕ} {T : List ℕ} → p .status ≡ READING → m ≡ up MAX64 (p .mark) → Reads (step tick) text w p T (with-mark m p) T
@@ -234,6 +240,6 @@ module _ {text w : List ℕ} {p : Cursor} where
 
   pub not-alone : {r : Cursor} {T : List ℕ} → (p .parts ≡ 1 → ⊥) → Halted FAILED p r → Reads (step alone) text w p T r T
   unfolding yields
-  not-alone e (was-halted n f) = still n f refl
+  not-alone e (was-halted n f) = still n (status-as f refl) (reached-of f) refl
   not-alone e (halts z f) =
-      reads z (λ s v. failed f (attempt-as (rw (← test 1 (omega arith) (v .parts), ne-eqb _ _ e)) (attempt-step tt)) (λ H. H))
+      reads z (λ s v. failed (status-as f refl) (attempt-from refl (sym (reached-of f)) (attempt-as (rw (← test 1 (omega arith) (v .parts), ne-eqb _ _ e)) (attempt-step tt))) (λ H. H))

@@ -2,7 +2,7 @@
 use mathlib.Core.Path.{_≡_}
 use mathlib.Core.Bool.{Bool, true}
 use mathlib.Core.List.{List}
-use Prim.Native.Nat.{ℕ, _<_, _≤_, min}
+use Prim.Native.Nat.{ℕ, _<_, _≤_, min, max}
 use lib.ListN.{length}
 use Rattle.tables.specs.Tables.{Node, laid}
 use Rattle.tables.specs.TokenKinds.{ELSE}
@@ -19,10 +19,17 @@ use Rattle.cursor.specs.declared.StmtPart.{StmtPart}
 abbrev pub LIMIT : ℕ
 LIMIT = 64
 
--- from s at nest n an attempt at g comes to o, and takes no token above the limit
-pub record Attempt (x : Input) (g : G) (n : ℕ) (s : S) (o : Out) : Type 0 where
+-- what attempts at g from s at nest n take: no token above the limit, of the tokens from a on those before b, and none from b on
+pub record Within (x : Input) (g : G) (n : ℕ) (s : S) (a b : ℕ) : Type 0 where
+  pub limit : (i m : ℕ) → Takes body x nests i m g n s → m ≤ LIMIT
+  pub up : a ≤ b
+  pub taken : (i : ℕ) → a ≤ i → i < b → (m : ℕ) × Takes body x nests i m g n s
+  pub below : (i m : ℕ) → Takes body x nests i m g n s → i < b
+
+-- such an attempt comes to o
+pub record Attempt (x : Input) (g : G) (n : ℕ) (s : S) (o : Out) (a b : ℕ) : Type 0 where
   pub derived : Derives body x g s o
-  pub within : (i m : ℕ) → Takes body x nests i m g n s → m ≤ LIMIT
+  pub within : Within x g n s a b
 
 -- it takes one above the limit
 pub record Exceeds (x : Input) (g : G) (n : ℕ) (s : S) : Type 0 where
@@ -64,16 +71,20 @@ pub record Represents (p : Cursor) (s : S) : Type 0 where
   pub to : Upto MAX16 (p .to) (s .frame .to)
   pub count : Upto MAX64 (p .count) (length (s .nodes))
 
+-- how far attempts have come: this one or one that was dropped
+abbrev pub reached : Cursor → ℕ
+reached p = max (p .at) (p .furthest)
+
 -- what became of g, read with the cursor p, which stands for s, and the table T
 pub data Result (g : G) (text w : List ℕ) (p : Cursor) (s : S) (T : List ℕ) (r : Cursor) (U : List ℕ) : Type 0 where
-  matched : (t : S) → r .status ≡ READING → r .nest ≡ p .nest → Represents r t → Attempt (input text w) g (p .nest) s (got t)
+  matched : (t : S) → r .status ≡ READING → r .nest ≡ p .nest → Represents r t → Attempt (input text w) g (p .nest) s (got t) (reached p) (reached r)
       → (Holds T (s .nodes) → Holds U (t .nodes)) → Result g text w p s T r U
-  failed : r .status ≡ FAILED → Attempt (input text w) g (p .nest) s none → (Holds T (s .nodes) → Holds U (s .nodes)) → Result g text w p s T r U
+  failed : r .status ≡ FAILED → Attempt (input text w) g (p .nest) s none (reached p) (reached r) → (Holds T (s .nodes) → Holds U (s .nodes)) → Result g text w p s T r U
   exceeded : r .status ≡ DEEP → Exceeds (input text w) g (p .nest) s → Result g text w p s T r U
 
--- a reader of g, given the cursor p and the node table T, left r and U; what is not reading stays as it is
+-- a reader of g, given the cursor p and the node table T, left r and U; what is not reading stays so and comes no further
 pub data Reads (g : G) (text w : List ℕ) (p : Cursor) (T : List ℕ) (r : Cursor) (U : List ℕ) : Type 0 where
-  still : (p .status ≡ READING → ⊥) → r ≡ p → U ≡ T → Reads g text w p T r U
+  still : (p .status ≡ READING → ⊥) → r .status ≡ p .status → reached r ≡ reached p → U ≡ T → Reads g text w p T r U
   reads : p .status ≡ READING → ((s : S) → Represents p s → Result g text w p s T r U) → Reads g text w p T r U
 
 -- the same of one that looks at no spelling
@@ -93,28 +104,28 @@ pub data Free (g : G) (p r : Cursor) : Type 0 where
   free : ((text w T : List ℕ) → Reads g text w p T r T) → Free g p r
 
 -- ---- rules
--- at the first token of a rule: the token i, after c nodes, at nest n
-abbrev pub begun : ℕ → ℕ → ℕ → Cursor
-begun i c n =
-    record { at = i; count = c; nest = n; status = READING; first = i; parts = 0; mark = 0; from = 0; to = 0 }
+-- at the first token of a rule: the token i, after c nodes, at nest n, where dropped attempts came up to f
+abbrev pub begun : ℕ → ℕ → ℕ → ℕ → Cursor
+begun i c n f =
+    record { at = i; count = c; furthest = f; nest = n; status = READING; first = i; parts = 0; mark = 0; from = 0; to = 0 }
 
 -- what a rule that ends so is to the construct around it
 abbrev pub ending : Cursor → Part
-ending e = record { at = e .at; count = e .count; from = e .from; to = e .to; status = e .status }
+ending e = record { at = e .at; count = e .count; furthest = e .furthest; from = e .from; to = e .to; status = e .status }
 
--- a reader of the inside of the rule r, from the token i on, after c nodes, at nest n: it has read the part q
-pub data Inside (r : R) (text w : List ℕ) (i c n : ℕ) (T : List ℕ) (q : Part) (U : List ℕ) : Type 0 where
-  inside : (e : Cursor) → Reads (body r) text w (begun i c n) T e U → q ≡ ending e → Inside r text w i c n T q U
+-- a reader of the inside of the rule r, from the token i on, after c nodes, at nest n, attempts having come up to f: it has read the part q
+pub data Inside (r : R) (text w : List ℕ) (i c n f : ℕ) (T : List ℕ) (q : Part) (U : List ℕ) : Type 0 where
+  inside : (e : Cursor) → Reads (body r) text w (begun i c n f) T e U → q ≡ ending e → Inside r text w i c n f T q U
 
 -- at the first token of a text
 abbrev pub start : Cursor
-start = begun 0 0 0
+start = begun 0 0 0 0
 
 -- ---- statements
 
--- an `else` at the token k fails at nest n
-pub record Tried (text w : List ℕ) (n k : ℕ) : Type 0 where
-  pub fails : (s : S) → s .at ≡ k → Attempt (input text w) (tok ELSE & rule stmt) n s none
+-- an `else` at the token k fails at nest n, and takes no token from b on
+pub record Tried (text w : List ℕ) (n k b : ℕ) : Type 0 where
+  pub fails : (s : S) → s .at ≡ k → Attempt (input text w) (tok ELSE & rule stmt) n s none b b
 
 -- what a statement that ends so is; f says that an `else` there is known to fail
 abbrev pub ending-with : Bool → Cursor → StmtPart
@@ -122,4 +133,4 @@ ending-with f e = record { part = ending e; tried = f }
 
 -- a reader of g, given the cursor p and the node table T, left U and has read q, and an `else` where that ends fails at p's nest if q says so
 pub data Ends (g : G) (text w : List ℕ) (p : Cursor) (T : List ℕ) (q : StmtPart) (U : List ℕ) : Type 0 where
-  ends : (e : Cursor) → Reads g text w p T e U → q .part ≡ ending e → (q .tried ≡ true → e .status ≡ READING → Tried text w (p .nest) (e .at)) → Ends g text w p T q U
+  ends : (e : Cursor) → Reads g text w p T e U → q .part ≡ ending e → (q .tried ≡ true → e .status ≡ READING → Tried text w (p .nest) (e .at) (reached e)) → Ends g text w p T q U

@@ -9,8 +9,8 @@ ghost use Rattle.grammar.specs.Derive.{step, take, leaf, index, literal, count,
 ghost use Rattle.grammar.specs.Kinds.{Call};
 ghost use Rattle.grammar.specs.Grammar.{tok, op, opt, name, numeral, whole, operands, spanless};
 ghost use Rattle.cursor.specs.Entries.{input, MAX16, MAX64};
-ghost use Rattle.cursor.specs.Read.{Puts, Grown, Step, Free, begun, ending, ending-with};
-ghost use Rattle.cursor.specs.Steps.{Wanted, Halted, Advanced, Emitted, Closed, Agreed, Restarted, Left, with-part, fresh-at, signed-at, shallow, joining, up};
+ghost use Rattle.cursor.specs.Read.{Puts, Grown, Step, Free, reached, begun, ending, ending-with};
+ghost use Rattle.cursor.specs.Steps.{Wanted, Halted, rewound, Advanced, Emitted, Closed, Agreed, Restarted, Left, with-part, fresh-at, signed-at, shallow, joining, up};
 use grammar::node_kind;
 use patterns::is_word;
 use tables::node::put_node;
@@ -32,6 +32,8 @@ pub struct Cursor {
     // The next token, and how many nodes there are.
     pub at: usize,
     pub count: usize,
+    // How far attempts came that were dropped: the token after the last that they took.
+    pub furthest: usize,
     // What the construct at hand has gathered: its first token, its mark, its parts, the start of the first part and the end of the last.
     pub first: usize,
     pub mark: u64,
@@ -43,11 +45,12 @@ pub struct Cursor {
     pub status: u8,
 }
 
-// What a rule has read: where it ended, how many nodes there are then, and the part that it is of what is around it.
+// What a rule has read: where it ended, how many nodes there are then, how far attempts came, and the part that it is of what is around it.
 // The status stands off every fourth byte, where it would be loaded with the gap behind it, which waits for its store.
 pub struct Part {
     pub at: usize,
     pub count: usize,
+    pub furthest: usize,
     pub from: u16,
     pub status: u8,
     pub to: u16,
@@ -85,6 +88,21 @@ impl Cursor {
         self
     }
 
+    // How far attempts have come, this one or one that was dropped: all tokens before that were taken.
+    pub fn reached(self) -> usize
+        ensures { λ r. ⌜ r ≡ reached self ⌝ }
+    {
+        if self.at < self.furthest { self.furthest } else { self.at }
+    }
+
+    // Back here, after an attempt that failed: how far it came is kept.
+    pub fn rewind(mut self, failed: Cursor) -> Cursor
+        ensures { λ r. ⌜ r ≡ rewound self failed ⌝ }
+    {
+        self.furthest = failed.reached();
+        self
+    }
+
     // Past a token of this kind, if it is there and not too deep.
     fn advance(mut self, tokens: &[u8], kind: u8) -> Cursor
         ensures { λ r. ⌜ Advanced (now (tokens .entry)) kind self r ⌝ }
@@ -118,7 +136,7 @@ impl Cursor {
     {
         let p = self.advance(tokens, kind);
         if p.status == FAILED {
-            return self;
+            return self.rewind(p);
         }
         p
     }
@@ -321,12 +339,13 @@ impl Cursor {
     }
 
     // At the first token of a rule.
-    pub fn begin(at: usize, count: usize, nest: u8) -> Cursor
-        ensures { λ r. ⌜ r ≡ begun at count nest ⌝ }
+    pub fn begin(at: usize, count: usize, nest: u8, furthest: usize) -> Cursor
+        ensures { λ r. ⌜ r ≡ begun at count nest furthest ⌝ }
     {
         Cursor {
             at: at,
             count: count,
+            furthest: furthest,
             first: at,
             mark: 0,
             parts: 0,
@@ -344,6 +363,7 @@ impl Cursor {
         Part {
             at: self.at,
             count: self.count,
+            furthest: self.furthest,
             from: self.from,
             status: self.status,
             to: self.to,
@@ -368,6 +388,7 @@ impl Cursor {
         let mut p = self.part(q.from, q.to);
         p.at = q.at;
         p.count = q.count;
+        p.furthest = q.furthest;
         p.status = q.status;
         p
     }
@@ -402,6 +423,7 @@ impl Cursor {
         let mut p = outer.part(self.from, self.to);
         p.at = self.at;
         p.count = self.count;
+        p.furthest = self.furthest;
         p.status = self.status;
         p
     }
@@ -414,17 +436,18 @@ impl Cursor {
         self
     }
 
-    // Fails unless another reading of the same tokens came to the same place; then it is back at this nest.
+    // Fails unless another reading of the same tokens came to the same place; then it is back at this nest. How far attempts came is for the other to say.
     pub fn agree(mut self, other: Cursor, nest: u8) -> Cursor
         ensures { λ r. ⌜ Agreed nest other self r ⌝ }
     {
         if self.status != READING {
-            return self;
+            return other.halt(self.status);
         }
         if other.at != self.at {
-            return self.halt(FAILED);
+            return other.halt(FAILED);
         }
         self.nest = nest;
+        self.furthest = other.furthest;
         self
     }
 

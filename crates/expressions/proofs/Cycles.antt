@@ -34,9 +34,9 @@ level-at n t = and 3 level.ps (is 3 level.ps (μ-level n) t) level-reads.Pre
 abbrev pub level-below : ℕ → ℕ → In 3 level.ps
 level-below n t = and 3 level.ps (falls 3 level.ps _<_ (μ-level n) t) level-reads.Pre
 
--- the inside of a rule: text, tokens, nodes, at, count, nest
+-- the inside of a rule: text, tokens, nodes, at, count, nest, furthest
 abbrev pub μ-inside : ℕ → Measures 3 inside.ps ℕ
-μ-inside n κs a = size (a .1 .0 .now) (begun (a .1 .1 .1 .0) (a .1 .1 .1 .1 .0) (a .1 .1 .1 .1 .1 .0)) n
+μ-inside n κs a = size (a .1 .0 .now) (begun (a .1 .1 .1 .0) (a .1 .1 .1 .1 .0) (a .1 .1 .1 .1 .1 .0) (a .1 .1 .1 .1 .1 .1 .0)) n
 
 abbrev pub inside-at : ℕ → ℕ → In 3 inside.ps
 inside-at n t = and 3 inside.ps (is 3 inside.ps (μ-inside n) t) inside-reads.Pre
@@ -46,7 +46,7 @@ inside-below n t = and 3 inside.ps (falls 3 inside.ps _<_ (μ-inside n) t) insid
 
 -- the same with a level
 abbrev pub μ-inside-level : ℕ → Measures 3 inside-level.ps ℕ
-μ-inside-level n κs a = size (a .1 .0 .now) (begun (a .1 .1 .1 .0) (a .1 .1 .1 .1 .0) (a .1 .1 .1 .1 .1 .0)) n
+μ-inside-level n κs a = size (a .1 .0 .now) (begun (a .1 .1 .1 .0) (a .1 .1 .1 .1 .0) (a .1 .1 .1 .1 .1 .0) (a .1 .1 .1 .1 .1 .1 .0)) n
 
 abbrev pub inside-level-at : ℕ → ℕ → In 3 inside-level.ps
 inside-level-at n t = and 3 inside-level.ps (is 3 inside-level.ps (μ-inside-level n) t) inside-level-reads.Pre

@@ -28,15 +28,24 @@ pub fn alloc_type_expr(text: &[u8], tokens: &[u8], nodes: &mut [u8], cursor: Cur
         cursor.at,
         cursor.count,
         deeper(cursor.nest),
+        cursor.furthest,
     );
     cursor.join(q)
 }
 
 // The inside of a type after `new`.
-fn alloc_at(text: &[u8], tokens: &[u8], nodes: &mut [u8], at: usize, count: usize, nest: u8) -> Part
-    ensures { λ r. ⌜ Inside alloc (now (text .entry)) (now (tokens .entry)) at count nest (now (nodes .entry)) r (now (nodes .exit)) ⌝ }
+fn alloc_at(
+    text: &[u8],
+    tokens: &[u8],
+    nodes: &mut [u8],
+    at: usize,
+    count: usize,
+    nest: u8,
+    furthest: usize,
+) -> Part
+    ensures { λ r. ⌜ Inside alloc (now (text .entry)) (now (tokens .entry)) at count nest furthest (now (nodes .entry)) r (now (nodes .exit)) ⌝ }
 {
-    let p = Cursor::begin(at, count, nest);
+    let p = Cursor::begin(at, count, nest, furthest);
     let p = alloc_base(text, tokens, nodes, p);
     let p = pointers(tokens, nodes, p);
     p.ended()
@@ -66,13 +75,13 @@ fn alloc_entries(text: &[u8], tokens: &[u8], nodes: &mut [u8], cursor: Cursor) -
     }
     let mut p = alloc_type_expr(text, tokens, nodes, cursor);
     if p.status == FAILED {
-        return cursor;
+        return cursor.rewind(p);
     }
     while p.status == READING {
         let q = p.take(tokens, COMMA);
         let q = alloc_type_expr(text, tokens, nodes, q);
         if q.status == FAILED {
-            return p;
+            return p.rewind(q);
         }
         p = q;
     }
@@ -92,6 +101,7 @@ pub fn tuple_end(tokens: &[u8], nodes: &mut [u8], cursor: Cursor) -> Cursor
     let p = cursor.take(tokens, R_PAREN);
     let q = p.alone();
     if q.status == FAILED {
+        let p = p.rewind(q);
         return p.whole(tokens, nodes, node_kind::TYPE_TUPLE);
     }
     q
@@ -105,7 +115,7 @@ pub fn pointers(tokens: &[u8], nodes: &mut [u8], cursor: Cursor) -> Cursor
         let q = p.take(tokens, MUL);
         let q = q.suffixed(tokens, nodes, node_kind::POINTER);
         if q.status == FAILED {
-            return p;
+            return p.rewind(q);
         }
         p = q;
     }

@@ -47,6 +47,7 @@ pub fn expr(text: &[u8], tokens: &[u8], nodes: &mut [u8], cursor: Cursor) -> Cur
         cursor.at,
         cursor.count,
         deeper(cursor.nest),
+        cursor.furthest,
         5,
     );
     cursor.join(q)
@@ -59,7 +60,7 @@ pub(crate) fn level(text: &[u8], tokens: &[u8], nodes: &mut [u8], cursor: Cursor
     if cursor.status != READING {
         return cursor;
     }
-    let q = level_at(text, tokens, nodes, cursor.at, cursor.count, cursor.nest, n);
+    let q = level_at(text, tokens, nodes, cursor.at, cursor.count, cursor.nest, cursor.furthest, n);
     cursor.join(q)
 }
 
@@ -71,11 +72,12 @@ pub(crate) fn level_at(
     at: usize,
     count: usize,
     nest: u8,
+    furthest: usize,
     n: u8,
 ) -> Part
-    ensures { λ r. ⌜ Inside (level n) (now (text .entry)) (now (tokens .entry)) at count nest (now (nodes .entry)) r (now (nodes .exit)) ⌝ }
+    ensures { λ r. ⌜ Inside (level n) (now (text .entry)) (now (tokens .entry)) at count nest furthest (now (nodes .entry)) r (now (nodes .exit)) ⌝ }
 {
-    let start = Cursor::begin(at, count, nest);
+    let start = Cursor::begin(at, count, nest, furthest);
     let p = unary(text, tokens, nodes, start);
     let p = casts(text, tokens, nodes, p);
     let mut p = p;
@@ -102,12 +104,12 @@ fn chain(text: &[u8], tokens: &[u8], nodes: &mut [u8], cursor: Cursor, n: u8) ->
     while p.status == READING {
         let q = operator(tokens, p, n);
         if q.status == FAILED {
-            return p;
+            return p.rewind(q);
         }
         let q = level(text, tokens, nodes, q, n);
         let q = q.operands(nodes, node_kind::BINARY);
         if q.status == FAILED {
-            return p;
+            return p.rewind(q);
         }
         p = q;
     }
@@ -181,7 +183,7 @@ fn casts(text: &[u8], tokens: &[u8], nodes: &mut [u8], cursor: Cursor) -> Cursor
         let q = q.leaf(tokens, nodes, IDENTIFIER, node_kind::NAMED, name);
         let q = q.operands(nodes, node_kind::CAST);
         if q.status == FAILED {
-            return p;
+            return p.rewind(q);
         }
         p = q;
     }
@@ -243,7 +245,7 @@ fn unary(text: &[u8], tokens: &[u8], nodes: &mut [u8], cursor: Cursor) -> Cursor
     if plain == 2 {
         return cursor.literal(tokens, nodes);
     }
-    let q = unary_at(text, tokens, nodes, cursor.at, cursor.count, cursor.nest);
+    let q = unary_at(text, tokens, nodes, cursor.at, cursor.count, cursor.nest, cursor.furthest);
     cursor.join(q)
 }
 
@@ -277,10 +279,11 @@ pub(crate) fn unary_at(
     at: usize,
     count: usize,
     nest: u8,
+    furthest: usize,
 ) -> Part
-    ensures { λ r. ⌜ Inside unary (now (text .entry)) (now (tokens .entry)) at count nest (now (nodes .entry)) r (now (nodes .exit)) ⌝ }
+    ensures { λ r. ⌜ Inside unary (now (text .entry)) (now (tokens .entry)) at count nest furthest (now (nodes .entry)) r (now (nodes .exit)) ⌝ }
 {
-    let start = Cursor::begin(at, count, nest);
+    let start = Cursor::begin(at, count, nest, furthest);
     let end = prefixes(tokens, start.at);
     let p = start.operand(end);
     if p.status != READING {
@@ -307,7 +310,7 @@ fn postfixed(text: &[u8], tokens: &[u8], nodes: &mut [u8], cursor: Cursor) -> Cu
         } else {
             let q = postfix_op(text, tokens, nodes, p);
             if q.status == FAILED {
-                return p;
+                return p.rewind(q);
             }
             p = q;
         }
@@ -335,6 +338,7 @@ fn postfix_op(text: &[u8], tokens: &[u8], nodes: &mut [u8], cursor: Cursor) -> C
         if q.status != FAILED {
             return q;
         }
+        let p = p.rewind(q);
         let q = p.spanned_ident(tokens, nodes);
         return q.operands(nodes, node_kind::MEMBER);
     }
@@ -361,7 +365,7 @@ fn arguments(text: &[u8], tokens: &[u8], nodes: &mut [u8], cursor: Cursor) -> Cu
     while p.status == READING {
         let q = expr(text, tokens, nodes, p);
         if q.status == FAILED {
-            return p;
+            return p.rewind(q);
         }
         let k = q.peek(tokens);
         if k != COMMA {
@@ -384,7 +388,7 @@ fn exprs(text: &[u8], tokens: &[u8], nodes: &mut [u8], cursor: Cursor) -> Cursor
         let q = p.take(tokens, COMMA);
         let q = expr(text, tokens, nodes, q);
         if q.status == FAILED {
-            return p;
+            return p.rewind(q);
         }
         p = q;
     }
@@ -403,7 +407,8 @@ fn atom(text: &[u8], tokens: &[u8], nodes: &mut [u8], cursor: Cursor) -> Cursor
         if p.status != FAILED {
             return p;
         }
-        return cursor.leaf(tokens, nodes, IDENTIFIER, node_kind::IDENTIFIER, 0);
+        let p = cursor.rewind(p);
+        return p.leaf(tokens, nodes, IDENTIFIER, node_kind::IDENTIFIER, 0);
     }
     if k == LITERAL_NUMBER {
         return cursor.literal(tokens, nodes);
@@ -463,7 +468,7 @@ fn struct_literal_fields(text: &[u8], tokens: &[u8], nodes: &mut [u8], cursor: C
     while p.status == READING {
         let q = field(text, tokens, nodes, p);
         if q.status == FAILED {
-            return p;
+            return p.rewind(q);
         }
         let k = q.peek(tokens);
         if k != COMMA {
@@ -495,6 +500,7 @@ fn array(text: &[u8], tokens: &[u8], nodes: &mut [u8], cursor: Cursor) -> Cursor
     let p = cursor.take(tokens, L_BRACK);
     let e = expr(text, tokens, nodes, p);
     if e.status == FAILED {
+        let p = p.rewind(e);
         let q = p.take(tokens, R_BRACK);
         return q.whole(tokens, nodes, node_kind::ARRAY);
     }
@@ -547,6 +553,7 @@ fn paren_or_tuple(text: &[u8], tokens: &[u8], nodes: &mut [u8], cursor: Cursor) 
     if q.status != FAILED {
         return q;
     }
+    let p = p.rewind(q);
     let q = exprs(text, tokens, nodes, p);
     let q = q.skip(tokens, COMMA);
     let q = q.take(tokens, R_PAREN);

@@ -10,6 +10,7 @@ use Rattle.grammar.specs.Derive.{Input, token, R, Act, Step, take, close
 use Rattle.grammar.specs.Derive.{Derives, stepped, and-not, and-then, or-first, or-else, no-more, one-more, agreed, ruled}
 use Rattle.grammar.specs.Derive.{Takes, here, and-left, and-right, or-left, or-right, now, later, both-first, inside}
 use Rattle.grammar.specs.Grammar.{body, nests, file, Stops}
+use Rattle.grammar.specs.Grammar as T
 use Rattle.grammar.proofs.On.{On, off, on, on-of, on-map, on-if, on-first, on-leave}
 use Rattle.grammar.proofs.Progress.{stays}
 
@@ -70,9 +71,9 @@ module _ (b : R → G) (w : R → ℕ) (x : Input) where
   before (inside t) = wider refl (λ i m. inside) (before t)
 
 -- a text stops at j, if no token there or later is taken, and the one before it is
-pub stops : {x : Input} {j : ℕ} → ((i m : ℕ) → Takes body x nests i m file 0 begin → i < j) → (1 ≤ j → (m : ℕ) × Takes body x nests (pred j) m file 0 begin) → Stops x j
+pub stops : {x : Input} {j : ℕ} → ((i m : ℕ) → Takes body x nests i m file 0 begin → i < j) → (1 ≤ j → T.Taken x (pred j)) → Stops x j
 stops {x} {j} most far =
     record {
       taken = λ i l. let (m, t) = far (omega arith) in before body nests x t .each i (omega arith) (omega arith);
-      untaken = λ n t. let l = most j n t in omega arith;
+      untaken = λ t. let l = most j (t .0) (t .1) in omega arith;
     }

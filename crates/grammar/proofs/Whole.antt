@@ -95,6 +95,6 @@ tree-one a b =
 -- and at most one token is the first that no attempt takes
 pub stops-one : {x : Input} {i j : ℕ} → Stops x i → Stops x j → i ≡ j
 stops-one {i = i} {j} a b =
-    let p : i < j → ⊥ = λ l. let (n, t) = b .taken i l in a .untaken n t in
-    let q : j < i → ⊥ = λ l. let (n, t) = a .taken j l in b .untaken n t in
+    let p : i < j → ⊥ = λ l. a .untaken (b .taken i l) in
+    let q : j < i → ⊥ = λ l. b .untaken (a .taken j l) in
     omega arith

@@ -334,7 +334,11 @@ pub record Deep (x : Input) : Type 0 where
   pub above : 64 < nest
   pub takes : Takes body x nests token nest file 0 begin
 
--- the token i is the first that no attempt takes: every token before it is taken by some attempt, and it is not
+-- some attempt takes the token i
+abbrev pub Taken : Input → ℕ → Type 0
+Taken x i = (n : ℕ) × Takes body x nests i n file 0 begin
+
+-- wish 2: the token i is the first that no attempt takes
 pub record Stops (x : Input) (i : ℕ) : Type 0 where
-  pub taken : (j : ℕ) → j < i → (n : ℕ) × Takes body x nests j n file 0 begin
-  pub untaken : (n : ℕ) → Takes body x nests i n file 0 begin → ⊥
+  pub taken : (j : ℕ) → j < i → Taken x j
+  pub untaken : Taken x i → ⊥

@@ -31,7 +31,7 @@ pub fn items(text: &[u8], tokens: &[u8], nodes: &mut [u8], cursor: Cursor) -> Cu
     while p.status == READING {
         let q = item(text, tokens, nodes, p);
         if q.status == FAILED {
-            return p;
+            return p.rewind(q);
         }
         p = q;
     }
@@ -44,15 +44,23 @@ fn item(text: &[u8], tokens: &[u8], nodes: &mut [u8], cursor: Cursor) -> Cursor
     if cursor.status != READING {
         return cursor;
     }
-    let q = item_at(text, tokens, nodes, cursor.at, cursor.count, cursor.nest);
+    let q = item_at(text, tokens, nodes, cursor.at, cursor.count, cursor.nest, cursor.furthest);
     cursor.join(q)
 }
 
 // The inside of an item. A constant is read as the statement that it is.
-fn item_at(text: &[u8], tokens: &[u8], nodes: &mut [u8], at: usize, count: usize, nest: u8) -> Part
-    ensures { λ r. ⌜ Inside item (now (text .entry)) (now (tokens .entry)) at count nest (now (nodes .entry)) r (now (nodes .exit)) ⌝ }
+fn item_at(
+    text: &[u8],
+    tokens: &[u8],
+    nodes: &mut [u8],
+    at: usize,
+    count: usize,
+    nest: u8,
+    furthest: usize,
+) -> Part
+    ensures { λ r. ⌜ Inside item (now (text .entry)) (now (tokens .entry)) at count nest furthest (now (nodes .entry)) r (now (nodes .exit)) ⌝ }
 {
-    let start = Cursor::begin(at, count, nest);
+    let start = Cursor::begin(at, count, nest, furthest);
     let k = start.peek(tokens);
     if k == FUNCTION {
         let p = function_def(text, tokens, nodes, start);
@@ -63,7 +71,7 @@ fn item_at(text: &[u8], tokens: &[u8], nodes: &mut [u8], at: usize, count: usize
         return p.ended();
     }
     if k == CONST {
-        let q = stmt_at(text, tokens, nodes, at, count, nest);
+        let q = stmt_at(text, tokens, nodes, at, count, nest, furthest);
         return q.part;
     }
     let p = use_stmt(tokens, nodes, start);
@@ -94,7 +102,7 @@ fn params(text: &[u8], tokens: &[u8], nodes: &mut [u8], cursor: Cursor) -> Curso
         let q = param(text, tokens, nodes, p);
         let q = q.tick();
         if q.status == FAILED {
-            return p;
+            return p.rewind(q);
         }
         let k = q.peek(tokens);
         if k != COMMA {
@@ -125,7 +133,8 @@ fn return_type(text: &[u8], tokens: &[u8], nodes: &mut [u8], cursor: Cursor) -> 
     let p = cursor.take(tokens, ARROW);
     let p = type_expr(text, tokens, nodes, p);
     if p.status == FAILED {
-        return unit_type(nodes, cursor);
+        let p = cursor.rewind(p);
+        return unit_type(nodes, p);
     }
     p
 }
@@ -160,7 +169,7 @@ fn struct_fields(text: &[u8], tokens: &[u8], nodes: &mut [u8], cursor: Cursor) -
     while p.status == READING {
         let q = struct_field(text, tokens, nodes, p);
         if q.status == FAILED {
-            return p;
+            return p.rewind(q);
         }
         let k = q.peek(tokens);
         if k != COMMA {
@@ -185,6 +194,7 @@ fn use_stmt(tokens: &[u8], nodes: &mut [u8], cursor: Cursor) -> Cursor
     let p = cursor.take(tokens, USE);
     let q = single(tokens, nodes, p);
     if q.status == FAILED {
+        let p = p.rewind(q);
         return use_list(tokens, nodes, p);
     }
     q
@@ -223,7 +233,7 @@ fn segments(tokens: &[u8], nodes: &mut [u8], cursor: Cursor) -> Cursor
         let q = q.spanned_ident(tokens, nodes);
         let q = q.tick();
         if q.status == FAILED {
-            return p;
+            return p.rewind(q);
         }
         p = q;
     }
@@ -237,7 +247,7 @@ fn names(tokens: &[u8], nodes: &mut [u8], cursor: Cursor) -> Cursor
     while p.status == READING {
         let q = p.spanned_ident(tokens, nodes);
         if q.status == FAILED {
-            return p;
+            return p.rewind(q);
         }
         let k = q.peek(tokens);
         if k != COMMA {

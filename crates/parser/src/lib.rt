@@ -11,10 +11,10 @@ ghost use Rattle.grammar.specs.Grammar.{file};
 ghost use Rattle.cursor.specs.Read.{Reads, start};
 ghost use Rattle.parser.specs.Parse.{ParsedIs};
 
-// What a text's tokens are: a tree with so many nodes, no tree, or too deep.
+// What a text's tokens are: a tree with so many nodes, no tree, with the first token that no attempt takes, or too deep.
 pub enum Parsed {
     Tree(usize),
-    Syntax,
+    Syntax(usize),
     Deep,
 }
 
@@ -22,7 +22,7 @@ pub enum Parsed {
 fn read(text: &[u8], tokens: &[u8], nodes: &mut [u8]) -> Cursor
     ensures { λ r. ⌜ Reads file (now (text .entry)) (now (tokens .entry)) start (now (nodes .entry)) r (now (nodes .exit)) ⌝ }
 {
-    let first = Cursor::begin(0, 0, 0);
+    let first = Cursor::begin(0, 0, 0, 0);
     items(text, tokens, nodes, first)
 }
 
@@ -37,7 +37,7 @@ pub fn parse(text: &[u8], tokens: &[u8], nodes: &mut [u8]) -> Parsed
     }
     if p.at != room(tokens) {
         keep_nodes(nodes, 0);
-        return Parsed::Syntax;
+        return Parsed::Syntax(p.reached());
     }
     keep_nodes(nodes, p.count);
     Parsed::Tree(p.count)

@@ -23,8 +23,9 @@ pub fn parsed(text: &[u8], tokens: &[u8], nodes: &mut [u8]) {
             field(b' ', count as u64);
             print_table(nodes, least(count, node::room(nodes)));
         }
-        Parsed::Syntax => {
+        Parsed::Syntax(at) => {
             words(b"syntax");
+            field(b' ', at as u64);
             print_table(nodes, 0);
         }
         Parsed::Deep => {

@@ -25,6 +25,7 @@ pub fn pattern(text: &[u8], tokens: &[u8], nodes: &mut [u8], cursor: Cursor) -> 
         cursor.at,
         cursor.count,
         deeper(cursor.nest),
+        cursor.furthest,
     );
     cursor.join(q)
 }
@@ -37,10 +38,11 @@ fn pattern_at(
     at: usize,
     count: usize,
     nest: u8,
+    furthest: usize,
 ) -> Part
-    ensures { λ r. ⌜ Inside pattern (now (text .entry)) (now (tokens .entry)) at count nest (now (nodes .entry)) r (now (nodes .exit)) ⌝ }
+    ensures { λ r. ⌜ Inside pattern (now (text .entry)) (now (tokens .entry)) at count nest furthest (now (nodes .entry)) r (now (nodes .exit)) ⌝ }
 {
-    let start = Cursor::begin(at, count, nest);
+    let start = Cursor::begin(at, count, nest, furthest);
     let k = start.peek(tokens);
     if k == L_PAREN {
         let p = start.take(tokens, L_PAREN);
@@ -49,7 +51,7 @@ fn pattern_at(
         if p.status != READING {
             return p.ended();
         }
-        let q = pattern_at(text, tokens, nodes, p.at, p.count, deeper(p.nest));
+        let q = pattern_at(text, tokens, nodes, p.at, p.count, deeper(p.nest), p.furthest);
         let p = p.join(q);
         let p = patterns(text, tokens, nodes, p);
         let p = p.take(tokens, R_PAREN);
@@ -68,7 +70,7 @@ fn patterns(text: &[u8], tokens: &[u8], nodes: &mut [u8], cursor: Cursor) -> Cur
         let q = p.take(tokens, COMMA);
         let q = pattern(text, tokens, nodes, q);
         if q.status == FAILED {
-            return p;
+            return p.rewind(q);
         }
         p = q;
     }

@@ -47,6 +47,7 @@ fn stmt(text: &[u8], tokens: &[u8], nodes: &mut [u8], cursor: Cursor) -> Cursor
         cursor.at,
         cursor.count,
         deeper(cursor.nest),
+        cursor.furthest,
     );
     cursor.join(q.part)
 }
@@ -59,10 +60,11 @@ pub fn stmt_at(
     at: usize,
     count: usize,
     nest: u8,
+    furthest: usize,
 ) -> StmtPart
-    ensures { λ r. ⌜ Ends statement (now (text .entry)) (now (tokens .entry)) (begun at count nest) (now (nodes .entry)) r (now (nodes .exit)) ⌝ }
+    ensures { λ r. ⌜ Ends statement (now (text .entry)) (now (tokens .entry)) (begun at count nest furthest) (now (nodes .entry)) r (now (nodes .exit)) ⌝ }
 {
-    let start = Cursor::begin(at, count, nest);
+    let start = Cursor::begin(at, count, nest, furthest);
     let k = start.peek(tokens);
     if k == L_BRACE {
         let p = block(text, tokens, nodes, start);
@@ -131,7 +133,7 @@ pub fn stmts(text: &[u8], tokens: &[u8], nodes: &mut [u8], cursor: Cursor) -> Cu
         }
         let q = stmt(text, tokens, nodes, p);
         if q.status == FAILED {
-            return p;
+            return p.rewind(q);
         }
         p = q;
     }
@@ -163,6 +165,7 @@ fn branches(text: &[u8], tokens: &[u8], nodes: &mut [u8], cursor: Cursor) -> Stm
         cursor.at,
         cursor.count,
         deeper(cursor.nest),
+        cursor.furthest,
     );
     let p = cursor.join(s.part);
     if s.tried {
@@ -171,15 +174,17 @@ fn branches(text: &[u8], tokens: &[u8], nodes: &mut [u8], cursor: Cursor) -> Stm
     }
     let q = p.take(tokens, ELSE);
     if q.status == FAILED {
+        let p = p.rewind(q);
         let p = p.whole(tokens, nodes, node_kind::IF);
         return p.ended_with(true);
     }
     if q.status != READING {
         return q.ended_with(false);
     }
-    let t = stmt_at(text, tokens, nodes, q.at, q.count, deeper(q.nest));
+    let t = stmt_at(text, tokens, nodes, q.at, q.count, deeper(q.nest), q.furthest);
     let q = q.join(t.part);
     if q.status == FAILED {
+        let p = p.rewind(q);
         let p = p.whole(tokens, nodes, node_kind::IF);
         return p.ended_with(true);
     }
@@ -238,6 +243,7 @@ fn last_stmt(text: &[u8], tokens: &[u8], nodes: &mut [u8], cursor: Cursor, kind:
         cursor.at,
         cursor.count,
         deeper(cursor.nest),
+        cursor.furthest,
     );
     let p = cursor.join(s.part);
     let p = p.whole(tokens, nodes, kind);
@@ -253,7 +259,7 @@ fn for_init(text: &[u8], tokens: &[u8], nodes: &mut [u8], cursor: Cursor) -> Cur
     }
     let k = cursor.peek(tokens);
     if k == LET {
-        let q = stmt_at(text, tokens, nodes, cursor.at, cursor.count, cursor.nest);
+        let q = stmt_at(text, tokens, nodes, cursor.at, cursor.count, cursor.nest, cursor.furthest);
         return cursor.join(q.part);
     }
     let p = cursor.enter();
@@ -296,7 +302,7 @@ fn assigned(text: &[u8], tokens: &[u8], nodes: &mut [u8], cursor: Cursor) -> Cur
     let p = cursor.take(tokens, EQ);
     let p = expr(text, tokens, nodes, p);
     if p.status == FAILED {
-        return cursor;
+        return cursor.rewind(p);
     }
     p
 }
@@ -308,7 +314,8 @@ fn finish(tokens: &[u8], nodes: &mut [u8], cursor: Cursor) -> Cursor
     let p = cursor.alone();
     let p = p.whole(tokens, nodes, node_kind::EXPR_STMT);
     if p.status == FAILED {
-        return cursor.whole(tokens, nodes, node_kind::ASSIGN);
+        let p = cursor.rewind(p);
+        return p.whole(tokens, nodes, node_kind::ASSIGN);
     }
     p
 }
@@ -320,7 +327,8 @@ fn condition(text: &[u8], tokens: &[u8], nodes: &mut [u8], cursor: Cursor) -> Cu
     let p = expr(text, tokens, nodes, p);
     let p = p.take(tokens, R_PAREN);
     if p.status == FAILED {
-        return expr(text, tokens, nodes, cursor);
+        let p = cursor.rewind(p);
+        return expr(text, tokens, nodes, p);
     }
     p
 }
@@ -360,7 +368,7 @@ fn typed(text: &[u8], tokens: &[u8], nodes: &mut [u8], cursor: Cursor) -> Cursor
     let p = type_expr(text, tokens, nodes, p);
     let p = p.tick();
     if p.status == FAILED {
-        return cursor;
+        return cursor.rewind(p);
     }
     p
 }
@@ -379,7 +387,7 @@ fn returned(text: &[u8], tokens: &[u8], nodes: &mut [u8], cursor: Cursor) -> Cur
 {
     let p = expr(text, tokens, nodes, cursor);
     if p.status == FAILED {
-        return cursor;
+        return cursor.rewind(p);
     }
     p
 }

@@ -32,15 +32,24 @@ pub fn type_expr(text: &[u8], tokens: &[u8], nodes: &mut [u8], cursor: Cursor) -
         cursor.at,
         cursor.count,
         deeper(cursor.nest),
+        cursor.furthest,
     );
     cursor.join(q)
 }
 
 // The inside of a type. Types within it call it by itself, so that `type_expr`, which others call, is small enough to be inlined.
-fn type_at(text: &[u8], tokens: &[u8], nodes: &mut [u8], at: usize, count: usize, nest: u8) -> Part
-    ensures { λ r. ⌜ Inside type (now (text .entry)) (now (tokens .entry)) at count nest (now (nodes .entry)) r (now (nodes .exit)) ⌝ }
+fn type_at(
+    text: &[u8],
+    tokens: &[u8],
+    nodes: &mut [u8],
+    at: usize,
+    count: usize,
+    nest: u8,
+    furthest: usize,
+) -> Part
+    ensures { λ r. ⌜ Inside type (now (text .entry)) (now (tokens .entry)) at count nest furthest (now (nodes .entry)) r (now (nodes .exit)) ⌝ }
 {
-    let start = Cursor::begin(at, count, nest);
+    let start = Cursor::begin(at, count, nest, furthest);
     let k = start.peek(tokens);
     if k == IDENTIFIER {
         let name = type_name(text, tokens, start.at);
@@ -79,7 +88,7 @@ fn array_type(text: &[u8], tokens: &[u8], nodes: &mut [u8], cursor: Cursor) -> C
     if p.status != READING {
         return p;
     }
-    let q = type_at(text, tokens, nodes, p.at, p.count, deeper(p.nest));
+    let q = type_at(text, tokens, nodes, p.at, p.count, deeper(p.nest), p.furthest);
     let p = p.join(q);
     let p = p.take(tokens, SEMICOLON);
     let p = array_size(text, tokens, nodes, p);
@@ -113,23 +122,24 @@ fn type_entries(text: &[u8], tokens: &[u8], nodes: &mut [u8], cursor: Cursor) ->
         cursor.at,
         cursor.count,
         deeper(cursor.nest),
+        cursor.furthest,
     );
     let mut p = cursor.join(q);
     if p.status == FAILED {
-        return cursor;
+        return cursor.rewind(p);
     }
     while p.status == READING {
         let q = p.take(tokens, COMMA);
         if q.status == FAILED {
-            return p;
+            return p.rewind(q);
         }
         if q.status != READING {
             return q;
         }
-        let t = type_at(text, tokens, nodes, q.at, q.count, deeper(q.nest));
+        let t = type_at(text, tokens, nodes, q.at, q.count, deeper(q.nest), q.furthest);
         let q = q.join(t);
         if q.status == FAILED {
-            return p;
+            return p.rewind(q);
         }
         p = q;
     }

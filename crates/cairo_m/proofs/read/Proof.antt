@@ -15,7 +15,10 @@ read-spec =
     (λ c. search needs)
     (λ c. search needs)
     (λ c. let d = c .before .before in let h = in-table (d .before .before .before .before .before .before .lex-alone .ensures) (d .lexed .given .1) (search needs) in omega arith)
-    (λ c κs. let f = c .before .before .before .before .before in unknown-in (takes (f .before .before .before .before .before .before .lex-alone .ensures) (f .lexed .given .1)) refl)
+    (λ c κs.
+    let f = c .before .before .before .before .before in
+    let x = takes (f .before .before .before .before .before .before .lex-alone .ensures) (f .lexed .given .1) in
+    (x .short, unknown-in x refl))
     (λ c κs. search needs)
     (λ c. search needs)
     (λ c. search needs)

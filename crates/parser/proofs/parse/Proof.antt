@@ -15,6 +15,7 @@ parse-spec =
     (λ c. search (needs, too-deep))
     (λ c κs. search needs)
     (λ c κs. search needs)
+    (λ c κs. search needs)
     (λ c. search needs)
     (λ c. search (needs, rejected))
     (λ c κs. search needs)

@@ -8,6 +8,7 @@ use Rattle.tables.specs.Tables.{tokenAt}
 use Rattle.cursor.specs.Read.{LIMIT, READING, FAILED, DEEP}
 use Rattle.cursor.specs.Steps.{Halted, Advanced, not-reading, not-there, too-deep, advanced, past}
 use Rattle.cursor.specs.declared.Cursor.{Cursor}
+use Rattle.cursor.proofs.Laws.{status-as}
 use Rattle.cursor.proofs.Steps.{halted, past-all}
 use Rattle.cursor.proofs.Cursor.advance.Statement.{statement}
 use Rattle.cursor.proofs.Cursor.advance.Tie as tie
@@ -20,7 +21,7 @@ module _ {w : List ℕ} {k : ℕ} {p : Cursor} (z : p .status ≡ READING) where
   another e h y = not-there z (λ _ f. h (e ∙ f)) (halted z y)
 
   too-far : {n : ℕ} {r : Cursor} → n ≡ tokenAt w (p .at) .kind → n ≡ k → LIMIT < p .nest → Halted DEEP p r → Advanced w k p r
-  too-far e f h y = too-deep z (sym e ∙ f) h (halted z y)
+  too-far e f h y = too-deep z (sym e ∙ f) h (status-as (halted z y) refl)
 
   gone : {n m : ℕ} → n ≡ length w / 16 → p .at < n → m ≡ tokenAt w (p .at) .kind → m ≡ k → p .nest ≤ LIMIT → Advanced w k p (past p)
   gone e h f g i = advanced z (sym f ∙ g) i (rw e at h) refl

@@ -11,5 +11,6 @@ skip-spec =
     tie.close
     (tie.spec
     (λ c κs. search needs)
+    (λ c κs. search needs)
     (λ c. search (needs, wanted, steps, absent, took))
     (λ c. search (needs, wanted, steps, first, took)))

@@ -2,6 +2,7 @@
 use Rattle.cursor.proofs.Reading.{refl, _∙_, ℕ, arith, body, idle, pass, nothing, size, on, on-step, _and-on_, further, lower, Listing, listing-begin, listing-next, listing-none, listing-miss, listing-off}
 use Rattle.grammar.specs.Derive as G
 use Rattle.cursor.proofs.Cursor.peek.Reads as peek-reads
+use Rattle.cursor.proofs.Cursor.rewind.Reads as rewind-reads
 use Rattle.cursor.proofs.Cursor.take.Reads as take-reads
 use Rattle.expressions.proofs.arguments.Reads as arguments
 use Rattle.expressions.proofs.expr.Reads as expr
@@ -9,7 +10,7 @@ use Rattle.expressions.proofs.+arguments+array+atom+chain+expr+exprs+fi
 use Rattle.expressions.proofs.Cycles.{reader-at, reader-below}
 
 abbrev given : ℕ → lts.Claims
-given t = (peek-reads.Asked, peek-reads.Learnt, reader-below 30 t, expr.Post, take-reads.Asked, take-reads.Learnt)
+given t = (peek-reads.Asked, peek-reads.Learnt, reader-below 30 t, expr.Post, rewind-reads.Asked, rewind-reads.Learnt, take-reads.Asked, take-reads.Learnt)
 
 abbrev Inv-loop : lts.InvT-loop
 Inv-loop text tokens nodes₀ k p₀ nodes p = Listing text tokens (G.rule G.expr) p₀ nodes₀ p nodes
@@ -30,10 +31,12 @@ arguments-spec t = lts.spec (given t) (reader-at 31 t) arguments.Post Inv-loop �
     (λ c. listing-begin)
     -- expr-requires
     (λ c κs. let c3 = c .before .before .before in let loop = c3 .loop .inv in let c6 = c3 .before .before .before in let if1 = c6 .if1 .left in let c11 = c6 .before .before .before .before .before in let pre = c11 .pre in (lower 30 31 (pre .0) if1 ((loop .on)) (omega arith), tt))
+    -- rewind-requires
+    (λ c κs. tt)
     -- same-length
-    (λ c. let c4 = c .before .before .before .before in let kept1 = c4 .expr .kept .1 .1 .0 in let c8 = c4 .before .before .before .before in let kept2 = c8 .loop .inv in (kept1 ∙ kept2 .kept))
+    (λ c. let c5 = c .before .before .before .before .before in let kept1 = c5 .expr .kept .1 .1 .0 in let c9 = c5 .before .before .before .before in let kept2 = c9 .loop .inv in (kept1 ∙ kept2 .kept))
     -- returns-3
-    (λ c. let if4 = c .if4 .taken in let c4 = c .before .before .before .before in let expr = c4 .expr .ensures in let c6 = c4 .before .before in let if3 = c6 .if3 .taken in let c8 = c6 .before .before in let loop = c8 .loop .inv in listing-none loop if3 (expr) if4)
+    (λ c. let rewind = c .rewind .ensures in let c1 = c .before in let if4 = c1 .if4 .taken in let c5 = c1 .before .before .before .before in let expr = c5 .expr .ensures in let c7 = c5 .before .before in let if3 = c7 .if3 .taken in let c9 = c7 .before .before in let loop = c9 .loop .inv in listing-none loop if3 (expr) if4 rewind)
     -- peek-requires-2
     (λ c κs. tt)
     -- same-length-2

@@ -1,6 +1,7 @@
 -- The reader `array` of the cycle. Assumes nothing.
 use Rattle.cursor.proofs.Reading.{_∙_, ℕ, arith, body, idle, one-put, one-step, _then_, only, pass, many-miss, nothing, on, on-step, _and-on_, further, share, element, no-element, many-never, opt-never, and-never}
 use Rattle.cursor.proofs.Cursor.peek.Reads as peek-reads
+use Rattle.cursor.proofs.Cursor.rewind.Reads as rewind-reads
 use Rattle.cursor.proofs.Cursor.skip.Reads as skip-reads
 use Rattle.cursor.proofs.Cursor.take.Reads as take-reads
 use Rattle.cursor.proofs.Cursor.whole.Reads as whole-reads
@@ -12,7 +13,7 @@ use Rattle.expressions.proofs.+arguments+array+atom+chain+expr+exprs+fi
 use Rattle.expressions.proofs.Cycles.{reader-at, reader-below}
 
 abbrev given : ℕ → lts.Claims
-given t = (take-reads.Asked, take-reads.Learnt, reader-below 30 t, expr.Post, whole-reads.Asked, whole-reads.Learnt, peek-reads.Asked, peek-reads.Learnt, repeat-count-reads.Asked, repeat-count-reads.Learnt, reader-below 3 t, exprs.Post, skip-reads.Asked, skip-reads.Learnt)
+given t = (take-reads.Asked, take-reads.Learnt, reader-below 30 t, expr.Post, rewind-reads.Asked, rewind-reads.Learnt, whole-reads.Asked, whole-reads.Learnt, peek-reads.Asked, peek-reads.Learnt, repeat-count-reads.Asked, repeat-count-reads.Learnt, reader-below 3 t, exprs.Post, skip-reads.Asked, skip-reads.Learnt)
 
 pub array-spec : {M : Type 1} (t : ℕ) → lts.Closed (given t) (reader-at 6 t) array.Post M
 unfolding body
@@ -23,14 +24,16 @@ array-spec t = lts.spec (given t) (reader-at 6 t) array.Post
     (λ c κs. tt)
     -- expr-requires
     (λ c κs. let c1 = c .before in let take = c1 .take .ensures in let c2 = c1 .before in let if1 = c2 .if1 .left in let c7 = c2 .before .before .before .before .before in let pre = c7 .pre in (further 30 6 (pre .0) if1 (on-step take) tt (omega arith), tt))
+    -- rewind-requires
+    (λ c κs. tt)
     -- take-requires-2
     (λ c κs. tt)
     -- whole-requires
     (λ c κs. tt)
     -- same-length
-    (λ c. let c2 = c .before .before in let kept1 = c2 .whole .kept .1 .1 .0 in let c9 = c2 .before .before .before .before .before .before .before in let kept2 = c9 .expr .kept .1 .1 .0 in (kept1 ∙ kept2))
+    (λ c. let c2 = c .before .before in let kept1 = c2 .whole .kept .1 .1 .0 in let c10 = c2 .before .before .before .before .before .before .before .before in let kept2 = c10 .expr .kept .1 .1 .0 in (kept1 ∙ kept2))
     -- returns-2
-    (λ c. let c2 = c .before .before in let whole = c2 .whole .ensures in let c4 = c2 .before .before in let take2 = c4 .take2 .ensures in let c5 = c4 .before in let if2 = c5 .if2 .taken in let c9 = c5 .before .before .before .before in let expr = c9 .expr .ensures in let c11 = c9 .before .before in let take = c11 .take .ensures in share (one-step take) (no-element expr if2 ((one-step take2) then (one-put whole))))
+    (λ c. let c2 = c .before .before in let whole = c2 .whole .ensures in let c4 = c2 .before .before in let take2 = c4 .take2 .ensures in let c5 = c4 .before in let rewind = c5 .rewind .ensures in let c6 = c5 .before in let if2 = c6 .if2 .taken in let c10 = c6 .before .before .before .before in let expr = c10 .expr .ensures in let c12 = c10 .before .before in let take = c12 .take .ensures in share (one-step take) (no-element expr if2 rewind ((one-step take2) then (one-put whole))))
     -- peek-requires
     (λ c κs. tt)
     -- take-requires-3

@@ -1,8 +1,9 @@
 -- The reader `atom` of the cycle. Assumes nothing.
-use Rattle.cursor.proofs.Reading.{_∙_, ℕ, arith, body, idle, one-put, first, other, only, pass, at-here, lower, regroup}
+use Rattle.cursor.proofs.Reading.{refl, _∙_, ℕ, arith, body, idle, one-put, first, other, only, pass, reads-as, at-here, lower, regroup}
 use Rattle.cursor.proofs.Cursor.leaf.Reads as leaf-reads
 use Rattle.cursor.proofs.Cursor.literal.Reads as literal-reads
 use Rattle.cursor.proofs.Cursor.peek.Reads as peek-reads
+use Rattle.cursor.proofs.Cursor.rewind.Reads as rewind-reads
 use Rattle.expressions.proofs.array.Reads as array
 use Rattle.expressions.proofs.atom.Reads as atom
 use Rattle.expressions.proofs.new_expr.Reads as new-expr
@@ -12,7 +13,7 @@ use Rattle.expressions.proofs.+arguments+array+atom+chain+expr+exprs+fi
 use Rattle.expressions.proofs.Cycles.{reader-at, reader-below}
 
 abbrev given : ℕ → lts.Claims
-given t = (peek-reads.Asked, peek-reads.Learnt, reader-below 6 t, struct-literal.Post, leaf-reads.Asked, leaf-reads.Learnt, literal-reads.Asked, literal-reads.Learnt, reader-below 6 t, new-expr.Post, reader-below 6 t, array.Post, reader-below 6 t, paren-or-tuple.Post)
+given t = (peek-reads.Asked, peek-reads.Learnt, reader-below 6 t, struct-literal.Post, rewind-reads.Asked, rewind-reads.Learnt, leaf-reads.Asked, leaf-reads.Learnt, literal-reads.Asked, literal-reads.Learnt, reader-below 6 t, new-expr.Post, reader-below 6 t, array.Post, reader-below 6 t, paren-or-tuple.Post)
 
 pub atom-spec : {M : Type 1} (t : ℕ) → lts.Closed (given t) (reader-at 7 t) atom.Post M
 unfolding body
@@ -27,12 +28,14 @@ atom-spec t = lts.spec (given t) (reader-at 7 t) atom.Post
     (λ c. let c4 = c .before .before .before .before in let kept1 = c4 .struct-literal .kept .1 .1 .0 in (kept1))
     -- returns-2
     (λ c. let if3 = c .if3 .taken in let c4 = c .before .before .before .before in let struct-literal = c4 .struct-literal .ensures in let c6 = c4 .before .before in let if2 = c6 .if2 .taken in let c7 = c6 .before in let peek = c7 .peek .ensures in (pass peek (omega (arith, if2)) tt (pass peek (omega (arith, if2)) tt (pass peek (omega (arith, if2)) tt (pass peek (omega (arith, if2)) tt (first struct-literal if3))))))
+    -- rewind-requires
+    (λ c κs. tt)
     -- leaf-requires
     (λ c κs. tt)
     -- same-length-2
-    (λ c. let c2 = c .before .before in let kept1 = c2 .leaf .kept .1 .1 .0 in let c8 = c2 .before .before .before .before .before .before in let kept2 = c8 .struct-literal .kept .1 .1 .0 in (kept1 ∙ kept2))
+    (λ c. let c2 = c .before .before in let kept1 = c2 .leaf .kept .1 .1 .0 in let c9 = c2 .before .before .before .before .before .before .before in let kept2 = c9 .struct-literal .kept .1 .1 .0 in (kept1 ∙ kept2))
     -- returns-3
-    (λ c. let c2 = c .before .before in let leaf = c2 .leaf .ensures in let c4 = c2 .before .before in let if3 = c4 .if3 .left in let c8 = c4 .before .before .before .before in let struct-literal = c8 .struct-literal .ensures in let c10 = c8 .before .before in let if2 = c10 .if2 .taken in let c11 = c10 .before in let peek = c11 .peek .ensures in (pass peek (omega (arith, if2)) tt (pass peek (omega (arith, if2)) tt (pass peek (omega (arith, if2)) tt (pass peek (omega (arith, if2)) tt (other struct-literal if3 (pass peek (omega (arith, if2)) tt (pass peek (omega (arith, if2)) tt (only peek if2 tt ((one-put leaf)))))))))))
+    (λ c. let c2 = c .before .before in let leaf = c2 .leaf .ensures in let c4 = c2 .before .before in let rewind = c4 .rewind .ensures in let c5 = c4 .before in let if3 = c5 .if3 .left in let c9 = c5 .before .before .before .before in let struct-literal = c9 .struct-literal .ensures in let c11 = c9 .before .before in let if2 = c11 .if2 .taken in let c12 = c11 .before in let peek = c12 .peek .ensures in (pass peek (omega (arith, if2)) tt (pass peek (omega (arith, if2)) tt (pass peek (omega (arith, if2)) tt (pass peek (omega (arith, if2)) tt (other struct-literal if3 refl (pass peek (omega (arith, if2)) tt (pass peek (omega (arith, if2)) tt (only peek if2 tt (reads-as rewind (one-put leaf)))))))))))
     -- literal-requires
     (λ c κs. tt)
     -- same-length-3

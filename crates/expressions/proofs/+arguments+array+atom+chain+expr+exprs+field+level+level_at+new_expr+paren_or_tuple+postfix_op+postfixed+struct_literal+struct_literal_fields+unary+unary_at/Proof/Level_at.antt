@@ -14,10 +14,10 @@ abbrev given : ℕ → lts.Claims
 given t = (begin-reads.Asked, begin-reads.Learnt, reader-below 10 t, unary.Post, casts-reads.Asked, casts-reads.Learnt, peek-reads.Asked, peek-reads.Learnt, ended-reads.Asked, ended-reads.Learnt, level-below 3 t, chain.Post)
 
 abbrev Inv-loop : lts.InvT-loop
-Inv-loop text tokens nodes₀ at count nest n p₀ i₀ nodes p i = Climbing text tokens at count nest n p₀ nodes₀ i p nodes
+Inv-loop text tokens nodes₀ at count nest furthest n p₀ i₀ nodes p i = Climbing text tokens at count nest furthest n p₀ nodes₀ i p nodes
 
 abbrev μ-loop : lts.MeasureT-loop
-μ-loop text tokens nodes₀ at count nest n p₀ i₀ nodes p i = n - i
+μ-loop text tokens nodes₀ at count nest furthest n p₀ i₀ nodes p i = n - i
 
 pub level-at-spec : {M : Type 1} (t : ℕ) → lts.Closed (given t) (inside-level-at 19 t) level-at.Post M
 unfolding body

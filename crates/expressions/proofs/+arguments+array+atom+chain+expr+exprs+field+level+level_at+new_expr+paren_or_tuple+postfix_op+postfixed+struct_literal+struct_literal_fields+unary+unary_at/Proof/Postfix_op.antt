@@ -4,6 +4,7 @@ use Rattle.cursor.proofs.Cursor.called.Reads as called-reads
 use Rattle.cursor.proofs.Cursor.index.Reads as index-reads
 use Rattle.cursor.proofs.Cursor.operands.Reads as operands-reads
 use Rattle.cursor.proofs.Cursor.peek.Reads as peek-reads
+use Rattle.cursor.proofs.Cursor.rewind.Reads as rewind-reads
 use Rattle.cursor.proofs.Cursor.spanned_ident.Reads as spanned-ident-reads
 use Rattle.cursor.proofs.Cursor.suffixed.Reads as suffixed-reads
 use Rattle.cursor.proofs.Cursor.take.Reads as take-reads
@@ -14,7 +15,7 @@ use Rattle.expressions.proofs.+arguments+array+atom+chain+expr+exprs+fi
 use Rattle.expressions.proofs.Cycles.{reader-at, reader-below}
 
 abbrev given : ℕ → lts.Claims
-given t = (peek-reads.Asked, peek-reads.Learnt, take-reads.Asked, take-reads.Learnt, reader-below 31 t, arguments.Post, called-reads.Asked, called-reads.Learnt, index-reads.Asked, index-reads.Learnt, suffixed-reads.Asked, suffixed-reads.Learnt, spanned-ident-reads.Asked, spanned-ident-reads.Learnt, operands-reads.Asked, operands-reads.Learnt, reader-below 30 t, expr.Post)
+given t = (peek-reads.Asked, peek-reads.Learnt, take-reads.Asked, take-reads.Learnt, reader-below 31 t, arguments.Post, called-reads.Asked, called-reads.Learnt, index-reads.Asked, index-reads.Learnt, suffixed-reads.Asked, suffixed-reads.Learnt, rewind-reads.Asked, rewind-reads.Learnt, spanned-ident-reads.Asked, spanned-ident-reads.Learnt, operands-reads.Asked, operands-reads.Learnt, reader-below 30 t, expr.Post)
 
 pub postfix-op-spec : {M : Type 1} (t : ℕ) → lts.Closed (given t) (reader-at 4 t) postfix-op.Post M
 unfolding body
@@ -45,14 +46,16 @@ postfix-op-spec t = lts.spec (given t) (reader-at 4 t) postfix-op.Post
     (λ c. let c4 = c .before .before .before .before in let kept1 = c4 .suffixed .kept .1 .1 .0 in (kept1))
     -- returns-3
     (λ c. let if4 = c .if4 .taken in let c4 = c .before .before .before .before in let suffixed = c4 .suffixed .ensures in let c6 = c4 .before .before in let index = c6 .index .ensures in let c7 = c6 .before in let take3 = c7 .take3 .ensures in let c8 = c7 .before in let if3 = c8 .if3 .taken in let c9 = c8 .before in let if2 = c9 .if2 .left in let c10 = c9 .before in let peek = c10 .peek .ensures in (pass peek (if2, tt) tt (regroup (only peek if3 tt (share (one-step take3) (first ((one-step index) then (one-put suffixed)) if4))))))
+    -- rewind-requires
+    (λ c κs. tt)
     -- spanned-ident-requires
     (λ c κs. tt)
     -- operands-requires
     (λ c κs. tt)
     -- same-length-3
-    (λ c. let c2 = c .before .before in let kept1 = c2 .operands .kept .1 .0 in let c6 = c2 .before .before .before .before in let kept2 = c6 .spanned-ident .kept .1 .1 .0 in let c12 = c6 .before .before .before .before .before .before in let kept3 = c12 .suffixed .kept .1 .1 .0 in (kept1 ∙ kept2 ∙ kept3))
+    (λ c. let c2 = c .before .before in let kept1 = c2 .operands .kept .1 .0 in let c6 = c2 .before .before .before .before in let kept2 = c6 .spanned-ident .kept .1 .1 .0 in let c13 = c6 .before .before .before .before .before .before .before in let kept3 = c13 .suffixed .kept .1 .1 .0 in (kept1 ∙ kept2 ∙ kept3))
     -- returns-4
-    (λ c. let c2 = c .before .before in let operands = c2 .operands .ensures in let c6 = c2 .before .before .before .before in let spanned-ident = c6 .spanned-ident .ensures in let c8 = c6 .before .before in let if4 = c8 .if4 .left in let c12 = c8 .before .before .before .before in let suffixed = c12 .suffixed .ensures in let c14 = c12 .before .before in let index = c14 .index .ensures in let c15 = c14 .before in let take3 = c15 .take3 .ensures in let c16 = c15 .before in let if3 = c16 .if3 .taken in let c17 = c16 .before in let if2 = c17 .if2 .left in let c18 = c17 .before in let peek = c18 .peek .ensures in (pass peek (if2, tt) tt (regroup (only peek if3 tt (share (one-step take3) (other ((one-step index) then (one-put suffixed)) if4 ((one-put spanned-ident) then (one-grown operands))))))))
+    (λ c. let c2 = c .before .before in let operands = c2 .operands .ensures in let c6 = c2 .before .before .before .before in let spanned-ident = c6 .spanned-ident .ensures in let c8 = c6 .before .before in let rewind = c8 .rewind .ensures in let c9 = c8 .before in let if4 = c9 .if4 .left in let c13 = c9 .before .before .before .before in let suffixed = c13 .suffixed .ensures in let c15 = c13 .before .before in let index = c15 .index .ensures in let c16 = c15 .before in let take3 = c16 .take3 .ensures in let c17 = c16 .before in let if3 = c17 .if3 .taken in let c18 = c17 .before in let if2 = c18 .if2 .left in let c19 = c18 .before in let peek = c19 .peek .ensures in (pass peek (if2, tt) tt (regroup (only peek if3 tt (share (one-step take3) (other ((one-step index) then (one-put suffixed)) if4 rewind ((one-put spanned-ident) then (one-grown operands))))))))
     -- take-requires-4
     (λ c κs. tt)
     -- returns-5

@@ -1,6 +1,7 @@
 -- The reader `postfixed` of the cycle. Assumes nothing.
 use Rattle.cursor.proofs.Reading.{refl, _∙_, ℕ, arith, body, idle, first, size, on, further, lower, Leading, leading-begin, leading-first, leading-next, leading-end, leading-off}
 use Rattle.grammar.specs.Grammar as L
+use Rattle.cursor.proofs.Cursor.rewind.Reads as rewind-reads
 use Rattle.expressions.proofs.atom.Reads as atom
 use Rattle.expressions.proofs.postfix_op.Reads as postfix-op
 use Rattle.expressions.proofs.postfixed.Reads as postfixed
@@ -8,7 +9,7 @@ use Rattle.expressions.proofs.+arguments+array+atom+chain+expr+exprs+fi
 use Rattle.expressions.proofs.Cycles.{reader-at, reader-below}
 
 abbrev given : ℕ → lts.Claims
-given t = (reader-below 7 t, atom.Post, reader-below 4 t, postfix-op.Post)
+given t = (reader-below 7 t, atom.Post, reader-below 4 t, postfix-op.Post, rewind-reads.Asked, rewind-reads.Learnt)
 
 abbrev Inv-loop : lts.InvT-loop
 Inv-loop text tokens nodes₀ p₀ first₀ nodes p first = Leading text tokens L.atom L.postfix p₀ nodes₀ first p nodes
@@ -31,10 +32,12 @@ postfixed-spec t = lts.spec (given t) (reader-at 8 t) postfixed.Post Inv-loop μ
     (λ c. let c2 = c .before .before in let atom = c2 .atom .ensures in let kept1 = c2 .atom .kept .1 .1 .0 in let c4 = c2 .before .before in let if3 = c4 .if3 .taken in let c7 = c4 .before .before .before in let loop = c7 .loop .inv in leading-first loop if3 atom kept1)
     -- postfix-op-requires
     (λ c κs. let c4 = c .before .before .before .before in let loop = c4 .loop .inv in let c5 = c4 .before in let if1 = c5 .if1 .left in let c10 = c5 .before .before .before .before .before in let pre = c10 .pre in (lower 4 8 (pre .0) if1 ((loop .on)) (omega arith), tt))
+    -- rewind-requires
+    (λ c κs. tt)
     -- same-length
-    (λ c. let c4 = c .before .before .before .before in let kept1 = c4 .postfix-op .kept .1 .1 .0 in let c9 = c4 .before .before .before .before .before in let kept2 = c9 .loop .inv in (kept1 ∙ kept2 .kept))
+    (λ c. let c5 = c .before .before .before .before .before in let kept1 = c5 .postfix-op .kept .1 .1 .0 in let c10 = c5 .before .before .before .before .before in let kept2 = c10 .loop .inv in (kept1 ∙ kept2 .kept))
     -- returns-2
-    (λ c. let if4 = c .if4 .taken in let c4 = c .before .before .before .before in let postfix-op = c4 .postfix-op .ensures in let c6 = c4 .before .before in let if3 = c6 .if3 .left in let c7 = c6 .before in let if2 = c7 .if2 .taken in let c9 = c7 .before .before in let loop = c9 .loop .inv in leading-end loop if3 if2 postfix-op if4)
+    (λ c. let rewind = c .rewind .ensures in let c1 = c .before in let if4 = c1 .if4 .taken in let c5 = c1 .before .before .before .before in let postfix-op = c5 .postfix-op .ensures in let c7 = c5 .before .before in let if3 = c7 .if3 .left in let c8 = c7 .before in let if2 = c8 .if2 .taken in let c10 = c8 .before .before in let loop = c10 .loop .inv in leading-end loop if3 if2 postfix-op if4 rewind)
     -- loop-less-2
     (λ c. let c4 = c .before .before .before .before in let postfix-op = c4 .postfix-op .ensures in let c7 = c4 .before .before .before in let if2 = c7 .if2 .taken in further 0 0 refl if2 (on postfix-op) tt (omega arith))
     -- loop-again-2

@@ -3,6 +3,7 @@ use Rattle.cursor.proofs.Reading.{refl, _∙_, ℕ, arith, body, idle, size, on
 use Rattle.grammar.specs.Derive as G
 use Rattle.grammar.specs.Grammar as L
 use Rattle.cursor.proofs.Cursor.peek.Reads as peek-reads
+use Rattle.cursor.proofs.Cursor.rewind.Reads as rewind-reads
 use Rattle.cursor.proofs.Cursor.take.Reads as take-reads
 use Rattle.expressions.proofs.field.Reads as field
 use Rattle.expressions.proofs.struct_literal_fields.Reads as struct-literal-fields
@@ -10,7 +11,7 @@ use Rattle.expressions.proofs.+arguments+array+atom+chain+expr+exprs+fi
 use Rattle.expressions.proofs.Cycles.{reader-at, reader-below}
 
 abbrev given : ℕ → lts.Claims
-given t = (reader-below 5 t, field.Post, peek-reads.Asked, peek-reads.Learnt, take-reads.Asked, take-reads.Learnt)
+given t = (reader-below 5 t, field.Post, rewind-reads.Asked, rewind-reads.Learnt, peek-reads.Asked, peek-reads.Learnt, take-reads.Asked, take-reads.Learnt)
 
 abbrev Inv-loop : lts.InvT-loop
 Inv-loop text tokens nodes₀ p₀ nodes p = Listing text tokens (L.field (G.rule G.expr)) p₀ nodes₀ p nodes
@@ -27,10 +28,12 @@ struct-literal-fields-spec t = lts.spec (given t) (reader-at 31 t) struct-litera
     (λ c. listing-begin)
     -- field-requires
     (λ c κs. let c3 = c .before .before .before in let loop = c3 .loop .inv in let c4 = c3 .before in let if1 = c4 .if1 .left in let c9 = c4 .before .before .before .before .before in let pre = c9 .pre in (lower 5 31 (pre .0) if1 ((loop .on)) (omega arith), tt))
+    -- rewind-requires
+    (λ c κs. tt)
     -- same-length
-    (λ c. let c4 = c .before .before .before .before in let kept1 = c4 .field .kept .1 .1 .0 in let c8 = c4 .before .before .before .before in let kept2 = c8 .loop .inv in (kept1 ∙ kept2 .kept))
+    (λ c. let c5 = c .before .before .before .before .before in let kept1 = c5 .field .kept .1 .1 .0 in let c9 = c5 .before .before .before .before in let kept2 = c9 .loop .inv in (kept1 ∙ kept2 .kept))
     -- returns-2
-    (λ c. let if3 = c .if3 .taken in let c4 = c .before .before .before .before in let field = c4 .field .ensures in let c6 = c4 .before .before in let if2 = c6 .if2 .taken in let c8 = c6 .before .before in let loop = c8 .loop .inv in listing-none loop if2 (field) if3)
+    (λ c. let rewind = c .rewind .ensures in let c1 = c .before in let if3 = c1 .if3 .taken in let c5 = c1 .before .before .before .before in let field = c5 .field .ensures in let c7 = c5 .before .before in let if2 = c7 .if2 .taken in let c9 = c7 .before .before in let loop = c9 .loop .inv in listing-none loop if2 (field) if3 rewind)
     -- peek-requires
     (λ c κs. tt)
     -- same-length-2

@@ -19,10 +19,12 @@ pointers-spec = tie.close (tie.spec Inv-loop μ-loop
     (λ c κs. tt)
     -- suffixed-requires
     (λ c κs. tt)
+    -- rewind-requires
+    (λ c κs. tt)
     -- same-length
-    (λ c. let c4 = c .before .before .before .before in let kept1 = c4 .suffixed .kept .1 .1 .0 in let c9 = c4 .before .before .before .before .before in let kept2 = c9 .loop .inv in (kept1 ∙ kept2 [] .kept))
+    (λ c. let c5 = c .before .before .before .before .before in let kept1 = c5 .suffixed .kept .1 .1 .0 in let c10 = c5 .before .before .before .before .before in let kept2 = c10 .loop .inv in (kept1 ∙ kept2 [] .kept))
     -- returns
-    (λ c. let if2 = c .if2 .taken in let c4 = c .before .before .before .before in let suffixed = c4 .suffixed .ensures in let c6 = c4 .before .before in let take = c6 .take .ensures in let c7 = c6 .before in let if1 = c7 .if1 .taken in let c9 = c7 .before .before in let loop = c9 .loop .inv in puts (λ text. rounds-end (loop text) if1 ((one-step take) then (one-put suffixed)) if2))
+    (λ c. let rewind = c .rewind .ensures in let c1 = c .before in let if2 = c1 .if2 .taken in let c5 = c1 .before .before .before .before in let suffixed = c5 .suffixed .ensures in let c7 = c5 .before .before in let take = c7 .take .ensures in let c8 = c7 .before in let if1 = c8 .if1 .taken in let c10 = c8 .before .before in let loop = c10 .loop .inv in puts (λ text. rounds-end (loop text) if1 ((one-step take) then (one-put suffixed)) if2 rewind))
     -- loop-less
     (λ c. let c4 = c .before .before .before .before in let suffixed = c4 .suffixed .ensures in let c6 = c4 .before .before in let take = c6 .take .ensures in let c7 = c6 .before in let if1 = c7 .if1 .taken in further 0 0 refl if1 (on-step take and-on on-put suffixed) tt (omega arith))
     -- loop-again

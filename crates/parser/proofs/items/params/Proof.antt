@@ -19,10 +19,12 @@ params-spec = tie.close (tie.spec Inv-loop μ-loop
     (λ c κs. tt)
     -- tick-requires
     (λ c κs. tt)
+    -- rewind-requires
+    (λ c κs. tt)
     -- same-length
-    (λ c. let c5 = c .before .before .before .before .before in let kept1 = c5 .param .kept .1 .1 .0 in let c9 = c5 .before .before .before .before in let kept2 = c9 .loop .inv in (kept1 ∙ kept2 .kept))
+    (λ c. let c6 = c .before .before .before .before .before .before in let kept1 = c6 .param .kept .1 .1 .0 in let c10 = c6 .before .before .before .before in let kept2 = c10 .loop .inv in (kept1 ∙ kept2 .kept))
     -- returns
-    (λ c. let if2 = c .if2 .taken in let c2 = c .before .before in let tick = c2 .tick .ensures in let c5 = c2 .before .before .before in let param = c5 .param .ensures in let c7 = c5 .before .before in let if1 = c7 .if1 .taken in let c9 = c7 .before .before in let loop = c9 .loop .inv in listing-none loop if1 (param then (one-free tick)) if2)
+    (λ c. let rewind = c .rewind .ensures in let c1 = c .before in let if2 = c1 .if2 .taken in let c3 = c1 .before .before in let tick = c3 .tick .ensures in let c6 = c3 .before .before .before in let param = c6 .param .ensures in let c8 = c6 .before .before in let if1 = c8 .if1 .taken in let c10 = c8 .before .before in let loop = c10 .loop .inv in listing-none loop if1 (param then (one-free tick)) if2 rewind)
     -- peek-requires
     (λ c κs. tt)
     -- same-length-2

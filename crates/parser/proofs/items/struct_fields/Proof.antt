@@ -18,10 +18,12 @@ struct-fields-spec = tie.close (tie.spec Inv-loop μ-loop
     (λ c. listing-begin)
     -- struct-field-requires
     (λ c κs. tt)
+    -- rewind-requires
+    (λ c κs. tt)
     -- same-length
-    (λ c. let c4 = c .before .before .before .before in let kept1 = c4 .struct-field .kept .1 .1 .0 in let c8 = c4 .before .before .before .before in let kept2 = c8 .loop .inv in (kept1 ∙ kept2 .kept))
+    (λ c. let c5 = c .before .before .before .before .before in let kept1 = c5 .struct-field .kept .1 .1 .0 in let c9 = c5 .before .before .before .before in let kept2 = c9 .loop .inv in (kept1 ∙ kept2 .kept))
     -- returns
-    (λ c. let if2 = c .if2 .taken in let c4 = c .before .before .before .before in let struct-field = c4 .struct-field .ensures in let c6 = c4 .before .before in let if1 = c6 .if1 .taken in let c8 = c6 .before .before in let loop = c8 .loop .inv in listing-none loop if1 (struct-field) if2)
+    (λ c. let rewind = c .rewind .ensures in let c1 = c .before in let if2 = c1 .if2 .taken in let c5 = c1 .before .before .before .before in let struct-field = c5 .struct-field .ensures in let c7 = c5 .before .before in let if1 = c7 .if1 .taken in let c9 = c7 .before .before in let loop = c9 .loop .inv in listing-none loop if1 (struct-field) if2 rewind)
     -- peek-requires
     (λ c κs. tt)
     -- same-length-2

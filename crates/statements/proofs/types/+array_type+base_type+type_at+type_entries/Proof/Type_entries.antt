@@ -3,6 +3,7 @@ use Rattle.cursor.proofs.Reading.{refl, _∙_, ℕ, arith, body, idle, one-step
 use Rattle.grammar.specs.Derive as G
 use Rattle.grammar.specs.Grammar as L
 use Rattle.cursor.proofs.Cursor.join.Reads as join-reads
+use Rattle.cursor.proofs.Cursor.rewind.Reads as rewind-reads
 use Rattle.cursor.proofs.Cursor.take.Reads as take-reads
 use Rattle.cursor.proofs.deeper.Reads as deeper-reads
 use Rattle.statements.proofs.types.type_at.Reads as type-at
@@ -11,7 +12,7 @@ use Rattle.statements.proofs.types.+array_type+base_type+type_at+type_e
 use Rattle.expressions.proofs.Cycles.{inside-below, reader-at}
 
 abbrev given : ℕ → lts.Claims
-given t = (deeper-reads.Asked, deeper-reads.Learnt, inside-below 4 t, type-at.Post, join-reads.Asked, join-reads.Learnt, take-reads.Asked, take-reads.Learnt)
+given t = (deeper-reads.Asked, deeper-reads.Learnt, inside-below 4 t, type-at.Post, join-reads.Asked, join-reads.Learnt, rewind-reads.Asked, rewind-reads.Learnt, take-reads.Asked, take-reads.Learnt)
 
 abbrev Inv-loop : lts.InvT-loop
 Inv-loop text tokens nodes₀ p₀ nodes p = Looping text tokens (L.another (G.rule G.type)) p₀ nodes₀ p nodes
@@ -30,18 +31,22 @@ type-entries-spec t = lts.spec (given t) (reader-at 6 t) type-entries.Post Inv-l
     (λ c κs. let c2 = c .before .before in let if1 = c2 .if1 .left in let c7 = c2 .before .before .before .before .before in let pre = c7 .pre in (lower 4 6 (pre .0) if1 (at-rule if1) (omega arith), tt))
     -- join-requires
     (λ c κs. tt)
+    -- rewind-requires
+    (λ c κs. tt)
     -- same-length
-    (λ c. let c5 = c .before .before .before .before .before in let kept1 = c5 .type-at .kept .1 .1 .0 in (kept1))
+    (λ c. let c6 = c .before .before .before .before .before .before in let kept1 = c6 .type-at .kept .1 .1 .0 in (kept1))
     -- returns-2
-    (λ c. let if2 = c .if2 .taken in let c2 = c .before .before in let join = c2 .join .ensures in let c5 = c2 .before .before .before in let type-at = c5 .type-at .ensures in let c6 = c5 .before in let deeper = c6 .deeper .ensures in let c8 = c6 .before .before in let if1 = c8 .if1 .left in entries-none (by-part G.type (record { upto = omega (arith, deeper) }) if1 type-at join) if2)
+    (λ c. let rewind = c .rewind .ensures in let c1 = c .before in let if2 = c1 .if2 .taken in let c3 = c1 .before .before in let join = c3 .join .ensures in let c6 = c3 .before .before .before in let type-at = c6 .type-at .ensures in let c7 = c6 .before in let deeper = c7 .deeper .ensures in let c9 = c7 .before .before in let if1 = c9 .if1 .left in entries-none (by-part G.type (record { upto = omega (arith, deeper) }) if1 type-at join) if2 rewind)
     -- loop-holds
     (λ c. rounds-begin)
     -- take-requires
     (λ c κs. tt)
+    -- rewind-requires-2
+    (λ c κs. tt)
     -- same-length-2
-    (λ c. let c5 = c .before .before .before .before .before in let kept1 = c5 .loop .inv in let c11 = c5 .before .before .before .before .before .before in let kept2 = c11 .type-at .kept .1 .1 .0 in (kept1 .kept ∙ kept2))
+    (λ c. let c6 = c .before .before .before .before .before .before in let kept1 = c6 .loop .inv in let c12 = c6 .before .before .before .before .before .before in let kept2 = c12 .type-at .kept .1 .1 .0 in (kept1 .kept ∙ kept2))
     -- returns-3
-    (λ c. let if4 = c .if4 .taken in let c2 = c .before .before in let take = c2 .take .ensures in let c3 = c2 .before in let if3 = c3 .if3 .taken in let c5 = c3 .before .before in let loop = c5 .loop .inv in let c6 = c5 .before in let if2 = c6 .if2 .left in let c8 = c6 .before .before in let join = c8 .join .ensures in let c11 = c8 .before .before .before in let type-at = c11 .type-at .ensures in let c12 = c11 .before in let deeper = c12 .deeper .ensures in let c14 = c12 .before .before in let if1 = c14 .if1 .left in entries-end (by-part G.type (record { upto = omega (arith, deeper) }) if1 type-at join) if2 loop if3 ((one-step take) then idle (fell if4)) if4)
+    (λ c. let rewind2 = c .rewind2 .ensures in let c1 = c .before in let if4 = c1 .if4 .taken in let c3 = c1 .before .before in let take = c3 .take .ensures in let c4 = c3 .before in let if3 = c4 .if3 .taken in let c6 = c4 .before .before in let loop = c6 .loop .inv in let c7 = c6 .before in let if2 = c7 .if2 .left in let c9 = c7 .before .before in let join = c9 .join .ensures in let c12 = c9 .before .before .before in let type-at = c12 .type-at .ensures in let c13 = c12 .before in let deeper = c13 .deeper .ensures in let c15 = c13 .before .before in let if1 = c15 .if1 .left in entries-end (by-part G.type (record { upto = omega (arith, deeper) }) if1 type-at join) if2 loop if3 ((one-step take) then idle (fell if4)) if4 rewind2)
     -- same-length-3
     (λ c. let c7 = c .before .before .before .before .before .before .before in let kept1 = c7 .loop .inv in let c13 = c7 .before .before .before .before .before .before in let kept2 = c13 .type-at .kept .1 .1 .0 in (kept1 .kept ∙ kept2))
     -- returns-4
@@ -52,10 +57,12 @@ type-entries-spec t = lts.spec (given t) (reader-at 6 t) type-entries.Post Inv-l
     (λ c κs. let c2 = c .before .before in let if5 = c2 .if5 .left in let c6 = c2 .before .before .before .before in let take = c6 .take .ensures in let c9 = c6 .before .before .before in let loop = c9 .loop .inv in let c12 = c9 .before .before .before in let join = c12 .join .ensures in let c15 = c12 .before .before .before in let type-at = c15 .type-at .ensures in let c16 = c15 .before in let deeper = c16 .deeper .ensures in let c18 = c16 .before .before in let if1 = c18 .if1 .left in let c23 = c18 .before .before .before .before .before in let pre = c23 .pre in (further 4 6 (pre .0) if1 (on (by-part G.type (record { upto = omega (arith, deeper) }) if1 type-at join) and-on loop .on and-on on-step take and-on at-rule if5) tt (omega arith), tt))
     -- join-requires-2
     (λ c κs. tt)
+    -- rewind-requires-3
+    (λ c κs. tt)
     -- same-length-4
-    (λ c. let c5 = c .before .before .before .before .before in let kept1 = c5 .type-at2 .kept .1 .1 .0 in let c15 = c5 .before .before .before .before .before .before .before .before .before .before in let kept2 = c15 .loop .inv in let c21 = c15 .before .before .before .before .before .before in let kept3 = c21 .type-at .kept .1 .1 .0 in (kept1 ∙ kept2 .kept ∙ kept3))
+    (λ c. let c6 = c .before .before .before .before .before .before in let kept1 = c6 .type-at2 .kept .1 .1 .0 in let c16 = c6 .before .before .before .before .before .before .before .before .before .before in let kept2 = c16 .loop .inv in let c22 = c16 .before .before .before .before .before .before in let kept3 = c22 .type-at .kept .1 .1 .0 in (kept1 ∙ kept2 .kept ∙ kept3))
     -- returns-5
-    (λ c. let if6 = c .if6 .taken in let c2 = c .before .before in let join2 = c2 .join2 .ensures in let c5 = c2 .before .before .before in let type-at2 = c5 .type-at2 .ensures in let c6 = c5 .before in let deeper2 = c6 .deeper2 .ensures in let c8 = c6 .before .before in let if5 = c8 .if5 .left in let c12 = c8 .before .before .before .before in let take = c12 .take .ensures in let c13 = c12 .before in let if3 = c13 .if3 .taken in let c15 = c13 .before .before in let loop = c15 .loop .inv in let c16 = c15 .before in let if2 = c16 .if2 .left in let c18 = c16 .before .before in let join = c18 .join .ensures in let c21 = c18 .before .before .before in let type-at = c21 .type-at .ensures in let c22 = c21 .before in let deeper = c22 .deeper .ensures in let c24 = c22 .before .before in let if1 = c24 .if1 .left in entries-end (by-part G.type (record { upto = omega (arith, deeper) }) if1 type-at join) if2 loop if3 ((one-step take) then (by-part G.type (record { upto = omega (arith, deeper2) }) if5 type-at2 join2)) if6)
+    (λ c. let rewind3 = c .rewind3 .ensures in let c1 = c .before in let if6 = c1 .if6 .taken in let c3 = c1 .before .before in let join2 = c3 .join2 .ensures in let c6 = c3 .before .before .before in let type-at2 = c6 .type-at2 .ensures in let c7 = c6 .before in let deeper2 = c7 .deeper2 .ensures in let c9 = c7 .before .before in let if5 = c9 .if5 .left in let c13 = c9 .before .before .before .before in let take = c13 .take .ensures in let c14 = c13 .before in let if3 = c14 .if3 .taken in let c16 = c14 .before .before in let loop = c16 .loop .inv in let c17 = c16 .before in let if2 = c17 .if2 .left in let c19 = c17 .before .before in let join = c19 .join .ensures in let c22 = c19 .before .before .before in let type-at = c22 .type-at .ensures in let c23 = c22 .before in let deeper = c23 .deeper .ensures in let c25 = c23 .before .before in let if1 = c25 .if1 .left in entries-end (by-part G.type (record { upto = omega (arith, deeper) }) if1 type-at join) if2 loop if3 ((one-step take) then (by-part G.type (record { upto = omega (arith, deeper2) }) if5 type-at2 join2)) if6 rewind3)
     -- loop-less
     (λ c. let c2 = c .before .before in let join2 = c2 .join2 .ensures in let c5 = c2 .before .before .before in let type-at2 = c5 .type-at2 .ensures in let c6 = c5 .before in let deeper2 = c6 .deeper2 .ensures in let c8 = c6 .before .before in let if5 = c8 .if5 .left in let c12 = c8 .before .before .before .before in let take = c12 .take .ensures in let c13 = c12 .before in let if3 = c13 .if3 .taken in further 0 0 refl if3 (on-step take and-on on (by-part G.type (record { upto = omega (arith, deeper2) }) if5 type-at2 join2)) tt (omega arith))
     -- loop-again
