@@ -27,13 +27,11 @@ pub const DEEP: u8 = 2;
 // The deepest nest at which a token may be taken.
 const LIMIT: u8 = 64;
 
-// The largest fields first, so that it has no gaps.
+// Without gaps, and what seldom changes last.
 pub struct Cursor {
     // The next token, and how many nodes there are.
     pub at: usize,
     pub count: usize,
-    // How far attempts came that were dropped: the token after the last that they took.
-    pub furthest: usize,
     // What the construct at hand has gathered: its first token, its mark, its parts, the start of the first part and the end of the last.
     pub first: usize,
     pub mark: u64,
@@ -43,6 +41,8 @@ pub struct Cursor {
     // How deep, and READING, FAILED or DEEP.
     pub nest: u8,
     pub status: u8,
+    // How far attempts came that were dropped: the token after the last that they took.
+    pub furthest: usize,
 }
 
 // What a rule has read: where it ended, how many nodes there are then, how far attempts came, and the part that it is of what is around it.
@@ -50,10 +50,10 @@ pub struct Cursor {
 pub struct Part {
     pub at: usize,
     pub count: usize,
-    pub furthest: usize,
     pub from: u16,
     pub status: u8,
     pub to: u16,
+    pub furthest: usize,
 }
 
 // What a statement has read, and whether an `else` where it ended is known to fail.

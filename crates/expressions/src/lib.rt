@@ -2,7 +2,8 @@
 pub mod alloc_types;
 
 ghost use Rattle.grammar.specs.Derive.{rule, expr, level, unary, many, _&_, _or_};
-ghost use Rattle.grammar.specs.Grammar.{another, list, field, fields, cast, link, operator, atom, postfix, newExpr, structLiteral, arrayRepeat, arrayLiteral, parenOrTuple, repeatCount};
+ghost use Rattle.grammar.specs.Kinds.{ArrayRepeat};
+ghost use Rattle.grammar.specs.Grammar.{whole, another, list, field, fields, cast, link, operator, atom, postfix, newExpr, structLiteral, arrayRepeat, arrayLiteral, parenOrTuple, repeatCount};
 ghost use Rattle.cursor.specs.Read.{Reads, Puts, Step, Inside};
 ghost use Rattle.cursor.specs.Steps.{Plain, Prefix, Prefixes, Unwound};
 use crate::alloc_types::alloc_type_expr;
@@ -507,12 +508,7 @@ fn array(text: &[u8], tokens: &[u8], nodes: &mut [u8], cursor: Cursor) -> Cursor
     let k = e.peek(tokens);
     if k == SEMICOLON {
         let q = e.take(tokens, SEMICOLON);
-        let q = repeat_count(tokens, nodes, q);
-        return q.whole(tokens, nodes, node_kind::ARRAY_REPEAT);
-    }
-    if k != COMMA {
-        let q = e.take(tokens, R_BRACK);
-        return q.whole(tokens, nodes, node_kind::ARRAY);
+        return repeat_end(tokens, nodes, q);
     }
     let q = exprs(text, tokens, nodes, e);
     let q = q.skip(tokens, COMMA);
@@ -520,9 +516,9 @@ fn array(text: &[u8], tokens: &[u8], nodes: &mut [u8], cursor: Cursor) -> Cursor
     q.whole(tokens, nodes, node_kind::ARRAY)
 }
 
-// A suffix is turned down after the bracket.
-fn repeat_count(tokens: &[u8], nodes: &mut [u8], cursor: Cursor) -> Cursor
-    ensures { λ r. ⌜ Puts repeatCount (now (tokens .entry)) cursor (now (nodes .entry)) r (now (nodes .exit)) ⌝ }
+// The count and the bracket, after which a suffix is turned down.
+fn repeat_end(tokens: &[u8], nodes: &mut [u8], cursor: Cursor) -> Cursor
+    ensures { λ r. ⌜ Puts (repeatCount & whole ArrayRepeat) (now (tokens .entry)) cursor (now (nodes .entry)) r (now (nodes .exit)) ⌝ }
 {
     let e = cursor.take(tokens, LITERAL_NUMBER);
     let e = e.take(tokens, R_BRACK);
@@ -532,7 +528,8 @@ fn repeat_count(tokens: &[u8], nodes: &mut [u8], cursor: Cursor) -> Cursor
     let p = cursor.outside();
     let p = p.count(tokens, nodes);
     let p = p.take(tokens, R_BRACK);
-    p.agree(e, cursor.nest)
+    let p = p.agree(e, cursor.nest);
+    p.whole(tokens, nodes, node_kind::ARRAY_REPEAT)
 }
 
 fn paren_or_tuple(text: &[u8], tokens: &[u8], nodes: &mut [u8], cursor: Cursor) -> Cursor

@@ -1,5 +1,5 @@
 -- The reader `array` of the cycle. Assumes nothing.
-use Rattle.cursor.proofs.Reading.{_∙_, ℕ, arith, body, idle, one-put, one-step, _then_, only, pass, many-miss, nothing, on, on-step, _and-on_, further, share, element, no-element, many-never, opt-never, and-never}
+use Rattle.cursor.proofs.Reading.{_∙_, ℕ, arith, body, idle, one-put, one-step, _then_, only, pass, on, on-step, _and-on_, further, share, element, no-element, many-never, opt-never, and-never}
 use Rattle.cursor.proofs.Cursor.peek.Reads as peek-reads
 use Rattle.cursor.proofs.Cursor.rewind.Reads as rewind-reads
 use Rattle.cursor.proofs.Cursor.skip.Reads as skip-reads
@@ -8,12 +8,12 @@ use Rattle.cursor.proofs.Cursor.whole.Reads as whole-reads
 use Rattle.expressions.proofs.array.Reads as array
 use Rattle.expressions.proofs.expr.Reads as expr
 use Rattle.expressions.proofs.exprs.Reads as exprs
-use Rattle.expressions.proofs.repeat_count.Reads as repeat-count-reads
+use Rattle.expressions.proofs.repeat_end.Reads as repeat-end-reads
 use Rattle.expressions.proofs.+arguments+array+atom+chain+expr+exprs+field+level+level_at+new_expr+paren_or_tuple+postfix_op+postfixed+struct_literal+struct_literal_fields+unary+unary_at.Lts-array as lts
 use Rattle.expressions.proofs.Cycles.{reader-at, reader-below}
 
 abbrev given : ℕ → lts.Claims
-given t = (take-reads.Asked, take-reads.Learnt, reader-below 30 t, expr.Post, rewind-reads.Asked, rewind-reads.Learnt, whole-reads.Asked, whole-reads.Learnt, peek-reads.Asked, peek-reads.Learnt, repeat-count-reads.Asked, repeat-count-reads.Learnt, reader-below 3 t, exprs.Post, skip-reads.Asked, skip-reads.Learnt)
+given t = (take-reads.Asked, take-reads.Learnt, reader-below 30 t, expr.Post, rewind-reads.Asked, rewind-reads.Learnt, whole-reads.Asked, whole-reads.Learnt, peek-reads.Asked, peek-reads.Learnt, repeat-end-reads.Asked, repeat-end-reads.Learnt, reader-below 3 t, exprs.Post, skip-reads.Asked, skip-reads.Learnt)
 
 pub array-spec : {M : Type 1} (t : ℕ) → lts.Closed (given t) (reader-at 6 t) array.Post M
 unfolding body
@@ -38,31 +38,21 @@ array-spec t = lts.spec (given t) (reader-at 6 t) array.Post
     (λ c κs. tt)
     -- take-requires-3
     (λ c κs. tt)
-    -- repeat-count-requires
+    -- repeat-end-requires
+    (λ c κs. tt)
+    -- same-length-2
+    (λ c. let c2 = c .before .before in let kept1 = c2 .repeat-end .kept .1 .0 in let c11 = c2 .before .before .before .before .before .before .before .before .before in let kept2 = c11 .expr .kept .1 .1 .0 in (kept1 ∙ kept2))
+    -- returns-3
+    (λ c. let c2 = c .before .before in let repeat-end = c2 .repeat-end .ensures in let c4 = c2 .before .before in let take3 = c4 .take3 .ensures in let c5 = c4 .before in let if3 = c5 .if3 .taken in let c6 = c5 .before in let peek = c6 .peek .ensures in let c7 = c6 .before in let if2 = c7 .if2 .left in let c11 = c7 .before .before .before .before in let expr = c11 .expr .ensures in let c13 = c11 .before .before in let take = c13 .take .ensures in share (one-step take) (element (and-never many-never opt-never) expr if2 (only peek if3 tt ((one-step take3) then (one-put repeat-end)))))
+    -- exprs-requires
+    (λ c κs. let c7 = c .before .before .before .before .before .before .before in let expr = c7 .expr .ensures in let c9 = c7 .before .before in let take = c9 .take .ensures in let c10 = c9 .before in let if1 = c10 .if1 .left in let c15 = c10 .before .before .before .before .before in let pre = c15 .pre in (further 3 6 (pre .0) if1 (on-step take and-on on expr) tt (omega arith), tt))
+    -- skip-requires
+    (λ c κs. tt)
+    -- take-requires-4
     (λ c κs. tt)
     -- whole-requires-2
     (λ c κs. tt)
-    -- same-length-2
-    (λ c. let c2 = c .before .before in let kept1 = c2 .whole2 .kept .1 .1 .0 in let c6 = c2 .before .before .before .before in let kept2 = c6 .repeat-count .kept .1 .0 in let c15 = c6 .before .before .before .before .before .before .before .before .before in let kept3 = c15 .expr .kept .1 .1 .0 in (kept1 ∙ kept2 ∙ kept3))
-    -- returns-3
-    (λ c. let c2 = c .before .before in let whole2 = c2 .whole2 .ensures in let c6 = c2 .before .before .before .before in let repeat-count = c6 .repeat-count .ensures in let c8 = c6 .before .before in let take3 = c8 .take3 .ensures in let c9 = c8 .before in let if3 = c9 .if3 .taken in let c10 = c9 .before in let peek = c10 .peek .ensures in let c11 = c10 .before in let if2 = c11 .if2 .left in let c15 = c11 .before .before .before .before in let expr = c15 .expr .ensures in let c17 = c15 .before .before in let take = c17 .take .ensures in share (one-step take) (element (and-never many-never opt-never) expr if2 (only peek if3 tt ((one-step take3) then (one-put repeat-count) then (one-put whole2)))))
-    -- take-requires-4
-    (λ c κs. tt)
-    -- whole-requires-3
-    (λ c κs. tt)
     -- same-length-3
-    (λ c. let c2 = c .before .before in let kept1 = c2 .whole3 .kept .1 .1 .0 in let c12 = c2 .before .before .before .before .before .before .before .before .before .before in let kept2 = c12 .expr .kept .1 .1 .0 in (kept1 ∙ kept2))
+    (λ c. let c2 = c .before .before in let kept1 = c2 .whole2 .kept .1 .1 .0 in let c8 = c2 .before .before .before .before .before .before in let kept2 = c8 .exprs .kept .1 .1 .0 in let c16 = c8 .before .before .before .before .before .before .before .before in let kept3 = c16 .expr .kept .1 .1 .0 in (kept1 ∙ kept2 ∙ kept3))
     -- returns-4
-    (λ c. let c2 = c .before .before in let whole3 = c2 .whole3 .ensures in let c4 = c2 .before .before in let take4 = c4 .take4 .ensures in let c5 = c4 .before in let if4 = c5 .if4 .taken in let c6 = c5 .before in let if3 = c6 .if3 .left in let c7 = c6 .before in let peek = c7 .peek .ensures in let c8 = c7 .before in let if2 = c8 .if2 .left in let c12 = c8 .before .before .before .before in let expr = c12 .expr .ensures in let c14 = c12 .before .before in let take = c14 .take .ensures in share (one-step take) (element (and-never many-never opt-never) expr if2 (pass peek (if3, tt) tt ((many-miss peek (if4, tt) tt then (pass peek (if4, tt) tt (nothing))) then (one-step take4) then (one-put whole3)))))
-    -- exprs-requires
-    (λ c κs. let c8 = c .before .before .before .before .before .before .before .before in let expr = c8 .expr .ensures in let c10 = c8 .before .before in let take = c10 .take .ensures in let c11 = c10 .before in let if1 = c11 .if1 .left in let c16 = c11 .before .before .before .before .before in let pre = c16 .pre in (further 3 6 (pre .0) if1 (on-step take and-on on expr) tt (omega arith), tt))
-    -- skip-requires
-    (λ c κs. tt)
-    -- take-requires-5
-    (λ c κs. tt)
-    -- whole-requires-4
-    (λ c κs. tt)
-    -- same-length-4
-    (λ c. let c2 = c .before .before in let kept1 = c2 .whole4 .kept .1 .1 .0 in let c8 = c2 .before .before .before .before .before .before in let kept2 = c8 .exprs .kept .1 .1 .0 in let c17 = c8 .before .before .before .before .before .before .before .before .before in let kept3 = c17 .expr .kept .1 .1 .0 in (kept1 ∙ kept2 ∙ kept3))
-    -- returns-5
-    (λ c. let c2 = c .before .before in let whole4 = c2 .whole4 .ensures in let c4 = c2 .before .before in let take5 = c4 .take5 .ensures in let c5 = c4 .before in let skip = c5 .skip .ensures in let c8 = c5 .before .before .before in let exprs = c8 .exprs .ensures in let c11 = c8 .before .before .before in let if3 = c11 .if3 .left in let c12 = c11 .before in let peek = c12 .peek .ensures in let c13 = c12 .before in let if2 = c13 .if2 .left in let c17 = c13 .before .before .before .before in let expr = c17 .expr .ensures in let c19 = c17 .before .before in let take = c19 .take .ensures in share (one-step take) (element (and-never many-never opt-never) expr if2 (pass peek (if3, tt) tt ((exprs then (one-step skip)) then (one-step take5) then (one-put whole4)))))
+    (λ c. let c2 = c .before .before in let whole2 = c2 .whole2 .ensures in let c4 = c2 .before .before in let take4 = c4 .take4 .ensures in let c5 = c4 .before in let skip = c5 .skip .ensures in let c8 = c5 .before .before .before in let exprs = c8 .exprs .ensures in let c10 = c8 .before .before in let if3 = c10 .if3 .left in let c11 = c10 .before in let peek = c11 .peek .ensures in let c12 = c11 .before in let if2 = c12 .if2 .left in let c16 = c12 .before .before .before .before in let expr = c16 .expr .ensures in let c18 = c16 .before .before in let take = c18 .take .ensures in share (one-step take) (element (and-never many-never opt-never) expr if2 (pass peek (if3, tt) tt ((exprs then (one-step skip)) then (one-step take4) then (one-put whole2)))))
