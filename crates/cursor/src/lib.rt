@@ -92,7 +92,11 @@ impl Cursor {
     pub fn reached(self) -> usize
         ensures { λ r. ⌜ r ≡ reached self ⌝ }
     {
-        if self.at < self.furthest { self.furthest } else { self.at }
+        if self.at < self.furthest {
+            self.furthest
+        } else {
+            self.at
+        }
     }
 
     // Back here, after an attempt that failed: how far it came is kept.

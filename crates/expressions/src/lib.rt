@@ -61,7 +61,16 @@ pub(crate) fn level(text: &[u8], tokens: &[u8], nodes: &mut [u8], cursor: Cursor
     if cursor.status != READING {
         return cursor;
     }
-    let q = level_at(text, tokens, nodes, cursor.at, cursor.count, cursor.nest, cursor.furthest, n);
+    let q = level_at(
+        text,
+        tokens,
+        nodes,
+        cursor.at,
+        cursor.count,
+        cursor.nest,
+        cursor.furthest,
+        n,
+    );
     cursor.join(q)
 }
 
@@ -246,7 +255,15 @@ fn unary(text: &[u8], tokens: &[u8], nodes: &mut [u8], cursor: Cursor) -> Cursor
     if plain == 2 {
         return cursor.literal(tokens, nodes);
     }
-    let q = unary_at(text, tokens, nodes, cursor.at, cursor.count, cursor.nest, cursor.furthest);
+    let q = unary_at(
+        text,
+        tokens,
+        nodes,
+        cursor.at,
+        cursor.count,
+        cursor.nest,
+        cursor.furthest,
+    );
     cursor.join(q)
 }
 

@@ -44,7 +44,15 @@ fn item(text: &[u8], tokens: &[u8], nodes: &mut [u8], cursor: Cursor) -> Cursor
     if cursor.status != READING {
         return cursor;
     }
-    let q = item_at(text, tokens, nodes, cursor.at, cursor.count, cursor.nest, cursor.furthest);
+    let q = item_at(
+        text,
+        tokens,
+        nodes,
+        cursor.at,
+        cursor.count,
+        cursor.nest,
+        cursor.furthest,
+    );
     cursor.join(q)
 }
 

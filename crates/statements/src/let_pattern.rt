@@ -51,7 +51,15 @@ fn pattern_at(
         if p.status != READING {
             return p.ended();
         }
-        let q = pattern_at(text, tokens, nodes, p.at, p.count, deeper(p.nest), p.furthest);
+        let q = pattern_at(
+            text,
+            tokens,
+            nodes,
+            p.at,
+            p.count,
+            deeper(p.nest),
+            p.furthest,
+        );
         let p = p.join(q);
         let p = patterns(text, tokens, nodes, p);
         let p = p.take(tokens, R_PAREN);

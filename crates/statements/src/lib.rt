@@ -181,7 +181,15 @@ fn branches(text: &[u8], tokens: &[u8], nodes: &mut [u8], cursor: Cursor) -> Stm
     if q.status != READING {
         return q.ended_with(false);
     }
-    let t = stmt_at(text, tokens, nodes, q.at, q.count, deeper(q.nest), q.furthest);
+    let t = stmt_at(
+        text,
+        tokens,
+        nodes,
+        q.at,
+        q.count,
+        deeper(q.nest),
+        q.furthest,
+    );
     let q = q.join(t.part);
     if q.status == FAILED {
         let p = p.rewind(q);
@@ -259,7 +267,15 @@ fn for_init(text: &[u8], tokens: &[u8], nodes: &mut [u8], cursor: Cursor) -> Cur
     }
     let k = cursor.peek(tokens);
     if k == LET {
-        let q = stmt_at(text, tokens, nodes, cursor.at, cursor.count, cursor.nest, cursor.furthest);
+        let q = stmt_at(
+            text,
+            tokens,
+            nodes,
+            cursor.at,
+            cursor.count,
+            cursor.nest,
+            cursor.furthest,
+        );
         return cursor.join(q.part);
     }
     let p = cursor.enter();

@@ -88,7 +88,15 @@ fn array_type(text: &[u8], tokens: &[u8], nodes: &mut [u8], cursor: Cursor) -> C
     if p.status != READING {
         return p;
     }
-    let q = type_at(text, tokens, nodes, p.at, p.count, deeper(p.nest), p.furthest);
+    let q = type_at(
+        text,
+        tokens,
+        nodes,
+        p.at,
+        p.count,
+        deeper(p.nest),
+        p.furthest,
+    );
     let p = p.join(q);
     let p = p.take(tokens, SEMICOLON);
     let p = array_size(text, tokens, nodes, p);
@@ -136,7 +144,15 @@ fn type_entries(text: &[u8], tokens: &[u8], nodes: &mut [u8], cursor: Cursor) ->
         if q.status != READING {
             return q;
         }
-        let t = type_at(text, tokens, nodes, q.at, q.count, deeper(q.nest), q.furthest);
+        let t = type_at(
+            text,
+            tokens,
+            nodes,
+            q.at,
+            q.count,
+            deeper(q.nest),
+            q.furthest,
+        );
         let q = q.join(t);
         if q.status == FAILED {
             return p.rewind(q);
