@@ -16,13 +16,13 @@ use Rattle.grammar.proofs.Progress.{sane?, sane-of}
 use Rattle.grammar.proofs.Whole.{solid, derives}
 use Rattle.grammar.proofs.Total.{Some, some}
 use Rattle.cursor.specs.Entries.{input}
-use Rattle.cursor.specs.Read.{Attempt, READING, FAILED, Represents, Result, matched, failed, exceeded, Reads, still, reads}
+use Rattle.cursor.specs.Read.{Attempt, READING, FAILED, Represents, reached, Result, matched, failed, exceeded, Reads, still, reads}
 use Rattle.cursor.specs.Steps.{rewound, Agreed, agrees-not, agrees-else, agrees, shallow}
 use Rattle.cursor.specs.declared.Cursor.{Cursor}
 use Rattle.cursor.proofs.Attempts.{within-as, within-both, attempt-as, attempt-from, attempt-settled, attempt-and-not, attempt-and-then, attempt-or-else, attempt-both, attempt-step}
 use Rattle.cursor.proofs.Attempts.{exceeds-by, exceeds-and-left, exceeds-and-right, exceeds-or-left, exceeds-or-right, exceeds-both}
 use Rattle.cursor.proofs.Laws.{seen-as, represents-with, clash, status-as, kept, becomes, turned, instead, joined}
-use Rattle.cursor.proofs.Steps.{halted, reached-of}
+use Rattle.cursor.proofs.Steps.{halted}
 pub use Rattle.cursor.proofs.Laws.{many-never, opt-never, and-never}
 
 -- ---- attempts put together otherwise
@@ -169,7 +169,7 @@ module _ {text w : List ℕ} where
           let m′ = halted o m in
           failed
           (status-as m′ refl)
-          (attempt-from refl (sym (reached-of m′)) (attempt-as (ap (λ (d : Bool). cond d (got u) none) (ne-eqb _ _ (λ q. i (v .at ∙ q ∙ sym (v₁ .at))))) (attempt-both c (c₁ .derived))))
+          (attempt-from refl (sym (ap reached m′)) (attempt-as (ap (λ (d : Bool). cond d (got u) none) (ne-eqb _ _ (λ q. i (v .at ∙ q ∙ sym (v₁ .at))))) (attempt-both c (c₁ .derived))))
           (λ H. kept (c₁ .derived) (f₁ (kept (c .derived) (f H))))
       go (matched t z n v c f) (matched u z₁ n₁ v₁ c₁ f₁) (agrees j i m) =
           matched
@@ -177,11 +177,11 @@ module _ {text w : List ℕ} where
           (status-as m z₁)
           (ap (λ (r : Cursor). r .nest) m)
           (seen-as m (represents-with (e .furthest) (p .nest) v₁))
-          (attempt-from refl (omega (arith, i, reached-of m)) (attempt-as (ap (λ (d : Bool). cond d (got u) none) (eq-eqb _ _ (sym (v .at) ∙ i ∙ v₁ .at))) (attempt-both c (c₁ .derived))))
+          (attempt-from refl (omega (arith, i, ap reached m)) (attempt-as (ap (λ (d : Bool). cond d (got u) none) (eq-eqb _ _ (sym (v .at) ∙ i ∙ v₁ .at))) (attempt-both c (c₁ .derived))))
           (λ H. f₁ (kept (c .derived) (f H)))
       go (matched t z n v c f) (failed z₁ c₁ f₁) (agrees-not j i) =
           let i′ = halted o i in
-          failed (status-as i′ z₁) (attempt-from refl (sym (reached-of i′)) (attempt-both c (c₁ .derived))) (λ H. f₁ (kept (c .derived) (f H)))
+          failed (status-as i′ z₁) (attempt-from refl (sym (ap reached i′)) (attempt-both c (c₁ .derived))) (λ H. f₁ (kept (c .derived) (f H)))
       go (matched t z n v c f) (failed z₁ c₁ f₁) (agrees-else j i m) = clash 1 0 z₁ j (omega arith)
       go (matched t z n v c f) (failed z₁ c₁ f₁) (agrees j i m) = clash 1 0 z₁ j (omega arith)
       go (matched t z n v c f) (exceeded z₁ c₁) a = let y : c₁ .nest ≡ 0 = flat j (c₁ .takes) in absurd (omega (arith, c₁ .above))

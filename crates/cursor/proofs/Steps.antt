@@ -36,9 +36,6 @@ pub halted : {k : ℕ} {p r : Cursor} → p .status ≡ READING → Halted k p r
 halted z (was-halted n e) = absurd (n z)
 halted z (halts h e) = e
 
-pub reached-of : {p q : Cursor} → p ≡ q → reached p ≡ reached q
-reached-of e = ap reached e
-
 nest-of : {p q : Cursor} → p ≡ q → p .nest ≡ q .nest
 nest-of e = ap (λ (r : Cursor). r .nest) e
 
@@ -82,11 +79,11 @@ module _ {text w : List ℕ} {k : ℕ} {p q : Cursor} where
   -- it is not there, or too deep
   pub stopped : {a : Act} {T : List ℕ} → 1 ≤ k → Advanced w k p q → (q .status ≡ READING → ⊥) → Reads (step (take k a)) text w p T q T
   unfolding yields
-  stopped h (not-reading n e) z = still n (status-as e refl) (reached-of e) refl
+  stopped h (not-reading n e) z = still n (status-as e refl) (ap reached e) refl
   stopped h (not-there y n e) z =
       reads y (λ s v.
       let miss : token (input text w) (s .at) .kind ≡ k → ⊥ = λ i. n h (rw (next-token text w v) at i) in
-      failed (status-as e refl) (attempt-from refl (sym (reached-of e)) (attempt-absent miss)) (λ H. H))
+      failed (status-as e refl) (attempt-from refl (sym (ap reached e)) (attempt-absent miss)) (λ H. H))
   stopped h (too-deep y i l e) z = reads y (λ s v. exceeded e (exceeds-take (rw (next-token text w v) i) l))
   stopped h (advanced y i l b e) z = absurd (z (status-as e y))
 
@@ -100,7 +97,7 @@ module _ {text w : List ℕ} {k : ℕ} {p q : Cursor} where
   taken (advanced y i m b e) z f g h l =
       reads y (λ s v.
       let o = l s (seen-as e (represents-past v)) in
-      matched (o .to) (f ∙ z) (g ∙ nest-of e) (o .represents) (attempt-as (rw (next-token text w v, eq-eqb _ _ i) (o .acted)) (attempt-take (rw (next-token text w v) i) m (omega (arith, v .at)) (omega (arith, v .at, h, reached-of e)))) (o .holds))
+      matched (o .to) (f ∙ z) (g ∙ nest-of e) (o .represents) (attempt-as (rw (next-token text w v, eq-eqb _ _ i) (o .acted)) (attempt-take (rw (next-token text w v) i) m (omega (arith, v .at)) (omega (arith, v .at, h, ap reached e)))) (o .holds))
 
   pub took : {T : List ℕ} → 1 ≤ k → Advanced w k p q → Reads (tok k) text w p T q T
   took h y =
@@ -117,7 +114,7 @@ module _ {text w : List ℕ} {k : ℕ} {p q : Cursor} where
       → (u : S → List Token) → ((s : S) → act (input text w) c (tokenAt w (p .at)) (next s) ≡ got (with-unknown (u s) (emit (tokenAt w (p .at)) n d v (next s))))
       → Reads (step (take k c)) text w p T r U
   leaves {n} {d} {v} y z f g l i j u h =
-      taken y z (status-as i refl) (nest-of i) (reached-of i) (λ s o.
+      taken y z (status-as i refl) (nest-of i) (ap reached i) (λ s o.
       record {
         to = with-unknown (u s) (emit (tokenAt w (p .at)) n d v (next s));
         acted = h s;
@@ -175,14 +172,14 @@ module _ {text w : List ℕ} {k : ℕ} {a b : Act} {p : Cursor} where
   -- b turns down what a took
   pub turned-down : {q r : Cursor} {T U : List ℕ} → ((s : S) → act (input text w) b (tokenAt w (p .at)) (next s) ≡ none)
       → Reads (step (take k a)) text w p T q U → Halted FAILED q r → Reads (step (take k b)) text w p T r U
-  turned-down d (still n e j f) (was-halted m i) = still n (status-as i e) (reached-of i ∙ j) f
+  turned-down d (still n e j f) (was-halted m i) = still n (status-as i e) (ap reached i ∙ j) f
   turned-down d (still n e j f) (halts y i) = absurd (n (sym e ∙ y))
   turned-down {q} {r} {T} {U} d (reads z l) h = reads z (λ s v. go s v (l s v) h)
     where
       go : (s : S) → Represents p s → Result (step (take k a)) text w p s T q U → Halted FAILED q r → Result (step (take k b)) text w p s T r U
       go s v (matched t z n o c f) (was-halted m e) = absurd (m z)
-      go s v (matched t z n o c f) (halts y e) = failed (status-as e refl) (attempt-from refl (sym (reached-of e)) (follows (λ _. none) refl (rw (next-token text w v) (d s)) c)) (λ H. kept (c .derived) (f H))
-      go s v (failed z c f) (was-halted m e) = failed (status-as e z) (attempt-from refl (sym (reached-of e)) (follows (λ _. none) refl (rw (next-token text w v) (d s)) c)) f
+      go s v (matched t z n o c f) (halts y e) = failed (status-as e refl) (attempt-from refl (sym (ap reached e)) (follows (λ _. none) refl (rw (next-token text w v) (d s)) c)) (λ H. kept (c .derived) (f H))
+      go s v (failed z c f) (was-halted m e) = failed (status-as e z) (attempt-from refl (sym (ap reached e)) (follows (λ _. none) refl (rw (next-token text w v) (d s)) c)) f
       go s v (failed z c f) (halts y e) = clash 1 0 z y (omega arith)
       go s v (exceeded z c) (was-halted m e) = exceeded (status-as e z) (exceeds-too c)
       go s v (exceeded z c) (halts y e) = clash 2 0 z y (omega arith)
@@ -218,11 +215,11 @@ module _ {text w : List ℕ} {p : Cursor} where
   pub gathers : {k n m : ℕ} {a : Start} {b : End} {r : Cursor} {T U : List ℕ} → Closed k n m p T r U → Bounds n m (p .parts) (p .mark) T
       → ((s : S) → Represents p s → Upto MAX16 n (starts (input text w) a s) × Upto MAX16 m (ends (input text w) b s)) → Reads (step (close k a b)) text w p T r U
   unfolding yields
-  gathers (not-closed n e f) l h = still n (status-as e refl) (reached-of e) f
+  gathers (not-closed n e f) l h = still n (status-as e refl) (ap reached e) f
   gathers {k} {a = a} {b = b} (closes z e f) l h =
       reads z (λ s v.
       let (i, j) = h s v in
-      matched (closed k (starts (input text w) a s) (ends (input text w) b s) s) (status-as e z) (nest-of e) (seen-as e (represents-closed k i j v)) (attempt-from refl (sym (reached-of e)) (attempt-step tt))
+      matched (closed k (starts (input text w) a s) (ends (input text w) b s) s) (status-as e z) (nest-of e) (seen-as e (represents-closed k i j v)) (attempt-from refl (sym (ap reached e)) (attempt-step tt))
       (λ H. rw (f, entry-is k 0 (l .start-fits) (l .end-fits) (l .children-fits) (l .value-fits) i j (v .parts) (v .mark)) (holds-more _ (omega arith) (v .count) H)))
 
   pub ticks : {m : ℕ} {T : List ℕ} → p .status ≡ READING → m ≡ up MAX64 (p .mark) → Reads (step tick) text w p T (with-mark m p) T
@@ -240,6 +237,6 @@ module _ {text w : List ℕ} {p : Cursor} where
 
   pub not-alone : {r : Cursor} {T : List ℕ} → (p .parts ≡ 1 → ⊥) → Halted FAILED p r → Reads (step alone) text w p T r T
   unfolding yields
-  not-alone e (was-halted n f) = still n (status-as f refl) (reached-of f) refl
+  not-alone e (was-halted n f) = still n (status-as f refl) (ap reached f) refl
   not-alone e (halts z f) =
-      reads z (λ s v. failed (status-as f refl) (attempt-from refl (sym (reached-of f)) (attempt-as (rw (← test 1 (omega arith) (v .parts), ne-eqb _ _ e)) (attempt-step tt))) (λ H. H))
+      reads z (λ s v. failed (status-as f refl) (attempt-from refl (sym (ap reached f)) (attempt-as (rw (← test 1 (omega arith) (v .parts), ne-eqb _ _ e)) (attempt-step tt))) (λ H. H))

@@ -28,7 +28,7 @@ abbrev pub with-status : ℕ → Cursor → Cursor
 with-status k p =
     record { at = p .at; count = p .count; furthest = p .furthest; nest = p .nest; status = k; first = p .first; parts = p .parts; mark = p .mark; from = p .from; to = p .to }
 
--- if it was reading
+-- that status, if it was reading
 pub data Halted (status : ℕ) (p r : Cursor) : Type 0 where
   was-halted : (p .status ≡ READING → ⊥) → r ≡ p → Halted status p r
   halts : p .status ≡ READING → r ≡ with-status status p → Halted status p r
