@@ -45,6 +45,9 @@ extern "C" {
 #define CAIRO_M_LONGEST_TEXT 65535
 #define CAIRO_M_DEEPEST_NEST 64
 
+// The largest value that a listing prints as a number, 2^53 - 1; a larger one is a string.
+#define CAIRO_M_LARGEST_NUMBER UINT64_C(9007199254740991)
+
 // ---- outcomes
 
 // What a call returns. Where more than one holds, a reading answers the first of 1, 2, 3, 4, 5, 7, 8, 6; a listing the first of
@@ -315,8 +318,10 @@ size_t cairo_m_spelling(const void *text, size_t length, uint8_t kind, uint16_t 
 
 // The listing of a tree: RFC 8259 JSON without spaces, as [["Name",6,7,0,0],["Literal",10,11,0,1,10],["Const",0,12,2,0]], without a
 // line feed: kind, start, end, children and value of every whole entry, so lend just node_count * sizeof(cairo_m_node) bytes; and the
-// base, whatever it is, of a Count, Literal, LiteralFelt or LiteralU32. The outcome is 0, 11 or 10. `size` is the length of the text
-// with outcome 0, else 0; `out` is zero after the text, and all zero when refused.
+// base, whatever it is, of a Count, Literal, LiteralFelt or LiteralU32. A value above CAIRO_M_LARGEST_NUMBER is a string of its
+// decimal digits, as ["Literal",10,26,0,"9007199254740992",10], since a reader of JSON may hold numbers as 64-bit floats (RFC 7493).
+// The outcome is 0, 11 or 10. `size` is the length of the text with outcome 0, else 0; `out` is zero after the text, and all zero
+// when refused.
 uint32_t cairo_m_list(const void *nodes, size_t nodes_size, void *out, size_t out_size, size_t *size);
 
 // The listing of a refusal, as {"refused":3,"diagnostics":[[0,1,1]]}: start, end and reason of every whole entry. The outcome is 0
@@ -325,9 +330,9 @@ uint32_t cairo_m_list_refused(uint32_t outcome, const void *diagnostics, size_t 
                               size_t *size);
 
 // Room that a listing of so many entries never goes past. The longest rows are
-// ["LiteralFelt",65535,65535,65535,18446744073709551615,255] and [65535,65535,255], with a comma 59 and 18 bytes; the rest is [] and
-// {"refused":4294967295,"diagnostics":[]}.
-#define CAIRO_M_LIST_BOUND(node_count) ((size_t)59 * (node_count) + 2)
+// ["LiteralFelt",65535,65535,65535,"18446744073709551615",255] and [65535,65535,255], with a comma 61 and 18 bytes; the rest is []
+// and {"refused":4294967295,"diagnostics":[]}.
+#define CAIRO_M_LIST_BOUND(node_count) ((size_t)61 * (node_count) + 2)
 #define CAIRO_M_LIST_REFUSED_BOUND(diagnostic_count) ((size_t)18 * (diagnostic_count) + 39)
 
 #ifdef __cplusplus

@@ -22,7 +22,7 @@
 #include "tree.h"
 
 // Somewhat more than the longest text, so that longer ones are tried.
-enum { TEXT_ROOM = CAIRO_M_LONGEST_TEXT + 5000, TABLE_ROOM = 16 * TEXT_ROOM, OUT_ROOM = 60 * TEXT_ROOM };
+enum { TEXT_ROOM = CAIRO_M_LONGEST_TEXT + 5000, TABLE_ROOM = 16 * TEXT_ROOM, OUT_ROOM = 62 * TEXT_ROOM };
 
 struct answer {
     uint32_t outcome;
@@ -438,6 +438,18 @@ static uint64_t take_number(void) {
     return number;
 }
 
+// A node's value: a number, or its digits in a string where it is large.
+static uint64_t take_value(void) {
+    bool string = *json == '"';
+    if (string)
+        json++;
+    uint64_t value = take_number();
+    if (string)
+        take("\"");
+    hold(string == (value > CAIRO_M_LARGEST_NUMBER), "a listing has a large value as a number, or a small one as a string");
+    return value;
+}
+
 static void check_listing(const cairo_m_node *nodes, size_t count) {
     take("[");
     for (size_t i = 0; i < count; i++) {
@@ -450,7 +462,7 @@ static void check_listing(const cairo_m_node *nodes, size_t count) {
         take(",");
         uint64_t children = take_number();
         take(",");
-        uint64_t value = take_number();
+        uint64_t value = take_value();
         if (carries_base(nodes[i].kind)) {
             take(",");
             hold(take_number() == nodes[i].base, "a listing has another base");

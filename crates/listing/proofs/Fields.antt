@@ -33,6 +33,15 @@ pub sixth-base : (k b : ℕ) {at r : ℕ} {T U : List ℕ} → 6 ≤ k → k ≤
 unfolding sixth added
 sixth-base k b h i p = rw (le-leb 6 k h, le-leb k 9 i, append-nil (decimal b)) p
 
+-- a value up to 2 ^ 53 - 1 is a number, a larger one its digits in quotes
+pub value-number : (v : ℕ) {at r : ℕ} {T U : List ℕ} → v ≤ 9007199254740991 → Writes (decimal v) at T r U → Writes (valueText v) at T r U
+unfolding valueText
+value-number v h p = rw (le-leb v 9007199254740991 h) p
+
+pub value-string : (v : ℕ) {at r : ℕ} {T U : List ℕ} → 9007199254740991 < v → Writes (34 ∷ (decimal v ++ (34 ∷ []))) at T r U → Writes (valueText v) at T r U
+unfolding valueText quoted
+value-string v h p = rw (lt-leb v 9007199254740991 h) p
+
 pub diagnostic-row-is : (d : Diagnostic) {s e r : ℕ} → s ≡ d .start → e ≡ d .end → r ≡ d .reason
     → 91 ∷ (decimal s ++ (44 ∷ (decimal e ++ (44 ∷ (decimal r ++ (93 ∷ [])))))) ≡ diagnosticRow d
 unfolding diagnosticRow array following

@@ -5,4 +5,5 @@ pub mod Names
 pub mod Fields
 pub mod Results
 pub mod Determined
+pub mod Values
 pub mod Examples

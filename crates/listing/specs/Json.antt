@@ -51,9 +51,9 @@ names =
 unfoldable pub kindName : ℕ → List ℕ
 kindName k = bytes (getD ("" ∷ names) k "")
 
--- a node's value
-abbrev pub valueText : ℕ → List ℕ
-valueText v = decimal v
+-- "In every node, a value above 9,007,199,254,740,991 is printed as a JSON string of its decimal digits; smaller ones stay numbers" (RFC 7493, 2.2)
+unfoldable pub valueText : ℕ → List ℕ
+valueText v = cond (leb v 9007199254740991) (decimal v) (quoted (decimal v))
 
 -- the base is "a sixth field on those four kinds only": Count and the three literals, 6 to 9
 unfoldable pub sixth : ℕ → ℕ → List (List ℕ)

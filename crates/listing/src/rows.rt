@@ -49,10 +49,16 @@ fn put_name(names: &[u8], kind: u8, out: &mut [u8], at: usize) -> usize
     put(out, at, &names[from..to])
 }
 
+// Past 2^53 - 1, where 64-bit floats skip numbers, a string.
 fn put_value(out: &mut [u8], at: usize, value: u64) -> usize
     ensures { λ r. ⌜ Writes (valueText value) at (now (out .entry)) r (now (out .exit)) ⌝ }
 {
-    put_number(out, at, value)
+    if value <= 9007199254740991 {
+        return put_number(out, at, value);
+    }
+    let mut next = put(out, at, b"\"");
+    next = put_number(out, next, value);
+    put(out, next, b"\"")
 }
 
 // A comma and a number.
