@@ -10,6 +10,8 @@ where it stops, that was written down by hand in parser_expected.py, and with th
   reading_expected.py --more N D   write N further cases to the folder D, as D/cases and D/owed
   reading_expected.py --texts D    write texts for cairolist to the folder D, each with the line owed for it in NAME.owed, and for
                                    each file of examples/ what the desk owes, in NAME.desk
+  reading_expected.py --floats D   read each line NAME.said of the folder D, as cairolist printed it for the text NAME, with numbers
+                                   that are 64-bit floats, and compare every number with the text's tree; exit 1 on a difference
   reading_expected.py --show N     print what is owed for the case on line N, table by table
 
 A line of the case file is one of these. Sizes are in bytes, but for LIST, which counts records.
@@ -36,6 +38,7 @@ JSON longer than 200 bytes is `SIZE:CRC` instead, and none is `-`.
 """
 
 import json
+import re
 import struct
 import sys
 import zlib
@@ -147,9 +150,14 @@ def spelling(text, kind, start, end):
 # ---- the listing
 
 
+# The largest number that the listing prints as one: the next has a neighbour that a 64-bit float cannot tell from it.
+LARGEST_NUMBER = 2**53 - 1
+
+
 def row(kind, *numbers):
-    """Start, end, children and value; the base only of a kind that carries one."""
-    return f'["{kind}",' + ",".join(map(str, numbers if kind in BASED else numbers[:4])) + "]"
+    """Start, end, children and value; the base only of a kind that carries one. A larger value is a string."""
+    fields = [*numbers[:3], numbers[3] if numbers[3] <= LARGEST_NUMBER else f'"{numbers[3]}"', *numbers[4:]]
+    return f'["{kind}",' + ",".join(map(str, fields if kind in BASED else fields[:4])) + "]"
 
 
 def listing(nodes):
@@ -506,6 +514,29 @@ def base_cases(cases):
         cases.read(f"const A = {n};")
 
 
+# ---- large values
+
+# Each with what the listing prints for it.
+LARGE_VALUES = [("9007199254740991", "9007199254740991"), ("9007199254740992", '"9007199254740992"'), ("18446744073709551615", '"18446744073709551615"')]
+# The kinds whose value a text sets, each with its number of children and what follows the value of a decimal numeral.
+VALUED = [("Count", 0, ",10"), ("Literal", 0, ",10"), ("LiteralFelt", 0, ",10"), ("LiteralU32", 0, ",10"), ("TupleIndex", 1, "")]
+
+
+def valued(n):
+    return f"const A: [T; {n}] = ({n}, {n}felt, {n}u32, t.{n});"
+
+
+def value_cases(cases):
+    for n, said in LARGE_VALUES:
+        answer = cases.read(valued(n))
+        for kind, children, after in VALUED:
+            if len(re.findall(rf'\["{kind}",\d+,\d+,{children},{re.escape(said + after)}\]', answer_listing(answer))) != 1:
+                raise SystemExit(f"reading_expected.py: the {kind} of {valued(n)!r} is not printed with {said}")
+    for n in ("9007199254740993", "0x1fffffffffffff", "0X20000000000000", "0o377777777777777777", "0O400000000000000000", "0b1" + "0" * 53, "0xffffffffffffffff"):
+        cases.read(valued(n))
+    cases.read(" ".join(valued(n) for n, _ in LARGE_VALUES))
+
+
 # ---- long texts
 
 # Before, the part that is repeated, how often, after.
@@ -846,7 +877,7 @@ def listing_cases(cases):
             cases.listed(runs, 400)
             cases.listed(runs, 0)
             cases.listed(runs, 63)
-    for entry, most in ((LARGEST, 59), (LARGEST_UNBASED, 57)):
+    for entry, most in ((LARGEST, 61), (LARGEST_UNBASED, 59)):
         for times in (1, 2, 3):
             size = most * times + 1
             for out in (0, size - most, size - 2, size - 1, size, size + 1, size + 40):
@@ -854,6 +885,22 @@ def listing_cases(cases):
     for digits in range(20):
         for value in (10**digits - 1, 10**digits):
             cases.listed([((7, 0, 1, 0, value, 10), 1)])
+    # the two spellings of a value, at each kind, at exact room and with a byte less, alone and beside each other
+    for kind in range(1, 43):
+        for value in (LARGEST_NUMBER, LARGEST_NUMBER + 1, expected.LARGEST_VALUE):
+            run = [((kind, 1, 2, 3, value, 10), 1)]
+            size = len(list_entry([run[0][0]], 10**9)[1])
+            cases.listed(run, size)
+            cases.listed(run, size - 1)
+    for bits in range(52, 65):
+        for value in (2**bits - 1, 2**bits, 2**bits + 1):
+            if value <= expected.LARGEST_VALUE:
+                cases.listed([((7, 0, 1, 0, value, 16), 1), ((19, 0, 1, 1, value, 0), 1)])
+    for values in ((0, 1), (1, 0), (1, 1), (0, 1, 0), (1, 0, 1)):
+        runs = [((kind, 0, 1, 0, LARGEST_NUMBER + more, 2), 1) for kind, more in zip((6, 19, 9), values)]
+        size = len(list_entry([entry for entry, _ in runs], 10**9)[1])
+        for out in range(size - 4, size + 3):
+            cases.listed(runs, out)
     for number in (0, 9, 10, 99, 100, 999, 1000, 9999, 10000, 65534, 65535):
         cases.listed([((14, number, 1, 2, 3, 0), 1), ((18, 1, number, 2, 3, 0), 1), ((20, 1, 2, number, 3, 0), 1)])
     # the base byte of the four kinds is printed as it is, the other kinds' is not
@@ -863,7 +910,7 @@ def listing_cases(cases):
         cases.listed(runs, size)
         cases.listed(runs, size - 1)
     for runs in ([(LARGEST, 65535)], [((1, 0, 1, 0, 0, 0), 40000), ((0, 0, 0, 0, 0, 0), 1)]):
-        size = 59 * 65535 + 1
+        size = 61 * 65535 + 1
         cases.listed(runs, size)
         cases.listed(runs, size - 1)
         cases.listed(runs, 0)
@@ -932,6 +979,8 @@ def all_cases():
     byte_cases(cases)
     cases.section("bases")
     base_cases(cases)
+    cases.section("large values")
+    value_cases(cases)
     cases.section("examples, whole and damaged")
     chance = expected.Chance(35)
     for text in examples().values():
@@ -1098,6 +1147,8 @@ def texts(folder):
         "deep": PARENS[1].bytes, "not_deep": PARENS[0].bytes, "minus": b"const A =" + b"-" * 1000 + b"1;", "cut": b"// \xe2\x82", "no_items": b"x",
         "largest": b"const A: [T; 18446744073709551615] = 0xffffffffffffffffu32;", "far": b" " * 65523 + b"const A = 1;",
         "bases": b"const A: [felt; 0x3] = [0b1, 0O7felt, 0XfFu32, 9, t.0x1, [0o1; 0B11]];",
+        "values": "\n".join(valued(n) for n, _ in LARGE_VALUES).encode(),
+        "more_values": "".join(valued(n) for n in ("9007199254740993", "0x3fffffffffffff", "0o777777777777777777777", "10000000000000000001")).encode(),
     }
     named.update(examples())
     Path(folder).mkdir(parents=True, exist_ok=True)
@@ -1106,6 +1157,37 @@ def texts(folder):
         Path(folder, name + ".owed").write_text(list_line(text))
     for name, text in examples().items():
         Path(folder, name + ".desk").write_text("\n".join(desk_lines("examples/" + name, text)) + "\n")
+    return 0
+
+
+def numbers_differ(said, answer):
+    """Whether a listing, read with numbers that are 64-bit floats, is another answer. A float stands for just its own value."""
+    read = json.loads(said, parse_int=float)
+    if answer.outcome != ACCEPTED:
+        return read != {"refused": answer.outcome, "diagnostics": [list(error) for error in answer.diagnostics]}
+    return [[kind, *map(int, numbers)] for kind, *numbers in read] != [list(node[:6 if node[0] in BASED else 5]) for node in answer.nodes]
+
+
+def floats(folder):
+    seen, strings = set(), 0
+    for path in sorted(Path(folder).glob("*.said")):
+        said, text = path.read_text(), path.with_suffix("").read_bytes()
+        answer = Text(text).read(16 * ENTRIES, 16 * ENTRIES, 8 * ENTRIES)
+        if numbers_differ(said, answer):
+            print(f"{path}: read with 64-bit floats, it is another answer")
+            return 1
+        # the same with every value as a number has to be told from it, or nothing is compared here
+        plain = re.sub(r'"(\d+)"', r"\1", said)
+        if any(value != int(float(value)) for *_, value, _ in answer.nodes) and not numbers_differ(plain, answer):
+            print(f"{path}: without strings it is read as the same answer")
+            return 1
+        seen |= {(kind, value) for kind, _, _, _, value, _ in answer.nodes}
+        strings += said != plain
+    missing = [(kind, value) for kind, *_ in VALUED for value, _ in LARGE_VALUES if (kind, int(value)) not in seen]
+    if missing or not strings:
+        print(f"{folder}: no {missing}, or no strings")
+        return 1
+    print(f"tests: every number is what it was, read with 64-bit floats; {strings} of the texts have strings for values")
     return 0
 
 
@@ -1118,6 +1200,8 @@ def main(words):
         return more(int(words[1]), words[2])
     if len(words) == 2 and words[0] == "--texts":
         return texts(words[1])
+    if len(words) == 2 and words[0] == "--floats":
+        return floats(words[1])
     if len(words) == 2 and words[0] == "--show":
         return show(int(words[1]))
     print(__doc__)

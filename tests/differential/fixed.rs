@@ -73,6 +73,16 @@ const BASES: [&str; 20] = [
     "const A = 0X + 0o + 0B + 0o8 + 0b2 + 0xg + 0xfelt + 0x10000000000000000;",
 ];
 
+/// Values around the largest that a listing has as a number, and the largest, as a Count, each literal and a tuple index.
+const VALUES: [&str; 6] = [
+    "const A: [T; 9007199254740991] = (9007199254740991, 9007199254740991felt, 9007199254740991u32, t.9007199254740991);",
+    "const A: [T; 9007199254740992] = (9007199254740992, 9007199254740992felt, 9007199254740992u32, t.9007199254740992);",
+    "const A: [T; 18446744073709551615] = (18446744073709551615, 18446744073709551615felt, 18446744073709551615u32, t.18446744073709551615);",
+    "const A = [0x1fffffffffffff; 0x20000000000000];",
+    "const A = [0o400000000000000000felt, 0o377777777777777777u32];",
+    "const A = t.0b11111111111111111111111111111111111111111111111111111.0x20000000000001;",
+];
+
 /// Refused texts that stop in their middle, at their end, after white space and comments, and after tokens given back.
 const STOPS: [&str; 24] = [
     "x",
@@ -157,7 +167,7 @@ impl List {
 
 fn list() -> List {
     let mut list = List { cases: Vec::new(), answers: String::new(), count: 0 };
-    for text in NAMED.iter().chain(&BASES).chain(&STOPS) {
+    for text in NAMED.iter().chain(&BASES).chain(&VALUES).chain(&STOPS) {
         list.add_with_rooms(text.as_bytes());
     }
     for nest in [63, 64] {

@@ -61,7 +61,14 @@ const BASES: [(&str, &str); 7] = [
     ("0b", "01"),
     ("0B", "01"),
 ];
-const EDGES: [&str; 13] = [
+const EDGES: [&str; 20] = [
+    "9007199254740991",
+    "9007199254740992",
+    "9007199254740993",
+    "1fffffffffffff",
+    "20000000000000",
+    "377777777777777777",
+    "400000000000000000",
     "18446744073709551615",
     "18446744073709551616",
     "18446744073709551620",
@@ -122,7 +129,12 @@ pub fn odd_numeral(random: &mut Random) -> String {
 
 /// A numeral that fits, without suffix: any base, either case of its letter and of its digits.
 fn any_base(random: &mut Random) -> String {
-    let value = if random.one_in(16) { u64::MAX } else { random.next() >> random.pick(&[0, 0, 30, 48, 56, 60, 61, 63]) };
+    let value = if random.one_in(16) {
+        // the largest, and those around the largest that a listing has as a number
+        random.pick(&[u64::MAX, (1 << 53) - 1, 1 << 53, (1 << 53) + 1])
+    } else {
+        random.next() >> random.pick(&[0, 0, 30, 48, 56, 60, 61, 63])
+    };
     match random.below(10) {
         0 => format!("0x{value:x}"),
         1 => format!("0x{value:X}"),

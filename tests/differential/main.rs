@@ -173,6 +173,8 @@ struct Seen {
     listings: [u64; 12],
     numerals: [u64; 10],
     spellings: u64,
+    /// Values in the listings of trees: those that are numbers, those that are strings.
+    values: [u64; 2],
     /// By base: literals and counts of the trees compared, and numerals that the entry accepted.
     literals: [u64; 17],
     counts: [u64; 17],
@@ -217,6 +219,33 @@ fn differ<T: PartialEq + std::fmt::Debug>(what: &str, reader: T, library: T) -> 
         return Ok(());
     }
     Err(format!("{what}: reader {reader:?}, library {library:?}"))
+}
+
+/// The numbers in each row of a listing of nodes, after its word. A string of digits is the number that they spell.
+fn numbers_of(listing: &str) -> Option<Vec<Vec<u64>>> {
+    let rows = listing.strip_prefix('[')?.strip_suffix(']')?;
+    if rows.is_empty() {
+        return Some(Vec::new());
+    }
+    let number = |field: &str| {
+        let digits = field.strip_prefix('"').and_then(|field| field.strip_suffix('"')).unwrap_or(field);
+        digits.parse().ok()
+    };
+    let rows = rows.strip_prefix('[')?.strip_suffix(']')?.split("],[");
+    rows.map(|row| row.split(',').skip(1).map(number).collect()).collect()
+}
+
+/// The same numbers, from the table that was listed.
+fn listed_numbers(nodes: &[u8]) -> Vec<Vec<u64>> {
+    let number = |bytes: &[u8]| bytes.iter().rev().fold(0, |number, &byte| number << 8 | byte as u64);
+    let rows = nodes.chunks_exact(Node::SIZE).map(|node| {
+        let mut numbers = vec![number(&node[2..4]), number(&node[4..6]), number(&node[6..8]), number(&node[8..])];
+        if (6..=9).contains(&node[0]) {
+            numbers.push(node[1] as u64);
+        }
+        numbers
+    });
+    rows.collect()
 }
 
 impl Desk {
@@ -398,6 +427,14 @@ impl Desk {
         differ(&answer("outcome, length"), (expected, json.len()), (outcome, size))?;
         self.out.check(&answer("text"), json.as_bytes(), 64)?;
         self.nodes.check(&answer("nodes"), nodes, Node::SIZE)?;
+        if outcome == reader::ACCEPTED {
+            let numbers = listed_numbers(nodes);
+            let said = std::str::from_utf8(&self.out.content()[..size]).ok().and_then(numbers_of);
+            differ(&answer("numbers"), Some(&numbers), said.as_ref())?;
+            for row in &numbers {
+                self.seen.values[(row[3] >= 1 << 53) as usize] += 1;
+            }
+        }
         self.seen.listings[outcome as usize] += 1;
         Ok(())
     }
@@ -541,6 +578,7 @@ impl Desk {
         println!("stops of outcome 7    at a token: {}, at the end: {}", seen.stops[0], seen.stops[1]);
         println!("lexings by outcome    {}", counts(&seen.lexings, &[0, 1, 2, 3, 4]));
         println!("listings by outcome   {}", counts(&seen.listings, &[0, 10, 11]));
+        println!("values in listings    numbers: {}, strings: {}", seen.values[0], seen.values[1]);
         println!("numerals by outcome   {}", counts(&seen.numerals, &[0, 1, 3, 9]));
         println!("spellings             {}", seen.spellings);
         println!("literals by base      {}", counts(&seen.literals, &BASES));
@@ -548,11 +586,11 @@ impl Desk {
         println!("numerals by base      {}", counts(&seen.entry_bases, &BASES));
     }
 
-    /// Whether every outcome of a reading, both places to stop and every base were seen.
+    /// Whether every outcome of a reading, both places to stop, both spellings of a value and every base were seen.
     fn covered(&self) -> bool {
         let seen = &self.seen;
         let every_base = |counts: &[u64]| BASES.iter().all(|&base| counts[base] > 0);
-        seen.readings.iter().chain(&seen.stops).all(|&count| count > 0)
+        seen.readings.iter().chain(&seen.stops).chain(&seen.values).all(|&count| count > 0)
             && every_base(&seen.literals)
             && every_base(&seen.counts)
             && every_base(&seen.entry_bases)
@@ -565,6 +603,8 @@ fn edge_texts() -> Vec<Vec<u8>> {
         "", "const A = 1;", "@", "const A = f( );", "const A = 0x1felt;", "0b12 0x 12u32x 1felt2 99999999999999999999felt2",
         "const A = 18446744073709551615;", "const A = 18446744073709551616;", "const A = [0X1fu32, 0o17, 0B101felt, 10];",
         "const A: [[T; 0b11]; 0O7] = [t.0x10; 0XA];", "0x1 0X2felt 0o3 0O4u32 0b1 0B0u8 0_x 00x1 t.0b1",
+        "const A: [T; 9007199254740991] = (9007199254740991, 9007199254740991felt, 9007199254740991u32, t.9007199254740991);",
+        "const A: [T; 9007199254740992] = (9007199254740992, 9007199254740992felt, 9007199254740992u32, t.9007199254740992);",
     ]
     .map(|text| text.as_bytes().to_vec())
     .to_vec();
@@ -621,7 +661,7 @@ fn run(seconds: u64, seed: u64) -> bool {
     desk.report(start);
     let covered = desk.covered();
     if !covered {
-        println!("not every outcome of a reading, not both places to stop, or not every base, was seen");
+        println!("not every outcome of a reading, not both places to stop or spellings of a value, or not every base, was seen");
     }
     covered
 }

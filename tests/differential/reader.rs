@@ -1181,7 +1181,9 @@ fn json_of_nodes(nodes: &[u8]) -> Option<String> {
         let comma = if i == 0 { "" } else { "," };
         let (start, end, children) = (number(&node[2..4]), number(&node[4..6]), number(&node[6..8]));
         let value = number(&node[8..16]);
-        write!(json, "{comma}[\"{word}\",{start},{end},{children},{value}").unwrap();
+        // past what a 64-bit float counts one by one, the digits stand in a string
+        let quote = if value >> 53 == 0 { "" } else { "\"" };
+        write!(json, "{comma}[\"{word}\",{start},{end},{children},{quote}{value}{quote}").unwrap();
         // a Count or a literal: the base, as it stands in the table
         if matches!(*word, "Count" | "Literal" | "LiteralFelt" | "LiteralU32") {
             write!(json, ",{}", node[1]).unwrap();
@@ -1329,6 +1331,50 @@ mod tests {
             listing("const A:[T;0O17]=1;"),
             r#"[["Name",6,7,0,0],["Named",9,10,0,3],["Count",11,15,0,15,8],["FixedArray",8,16,2,0],["Literal",17,18,0,1,10],["Const",0,19,3,1]]"#
         );
+    }
+
+    #[test]
+    fn large_values() {
+        for (value, said) in [
+            ("9007199254740991", "9007199254740991"),
+            ("9007199254740992", r#""9007199254740992""#),
+            ("0x20000000000001", r#""9007199254740993""#),
+            ("18446744073709551615", r#""18446744073709551615""#),
+        ] {
+            let base = if value.starts_with("0x") { 16 } else { 10 };
+            let n = value.len();
+            assert_eq!(
+                listing(&format!("const A:[T;{value}]=1;")),
+                format!(
+                    r#"[["Name",6,7,0,0],["Named",9,10,0,3],["Count",11,{},0,{said},{base}],["FixedArray",8,{},2,0],["Literal",{},{},0,1,10],["Const",0,{},3,1]]"#,
+                    11 + n, 12 + n, 13 + n, 14 + n, 15 + n
+                )
+            );
+            assert_eq!(
+                body_listing(&format!("t.{value};")),
+                format!(r#"[["Identifier",0,1,0,0],["TupleIndex",0,{},1,{said}],["ExprStmt",0,{},1,0]]"#, 2 + n, 3 + n)
+            );
+            for (suffix, word) in [("", "Literal"), ("felt", "LiteralFelt"), ("u32", "LiteralU32")] {
+                let n = n + suffix.len();
+                assert_eq!(
+                    body_listing(&format!("{value}{suffix};")),
+                    format!(r#"[["{word}",0,{n},0,{said},{base}],["ExprStmt",0,{},1,0]]"#, n + 1)
+                );
+            }
+        }
+        // every kind, and room for all or for a byte less
+        for kind in 1..=42 {
+            for (value, said) in [((1 << 53) - 1, "9007199254740991"), (1 << 53, r#""9007199254740992""#)] {
+                let mut entry = [kind, 7, 1, 0, 2, 0, 3, 0, 0, 0, 0, 0, 0, 0, 0, 0];
+                entry[8..].copy_from_slice(&u64::to_le_bytes(value));
+                let word = NODE_WORDS[kind as usize - 1];
+                let sixth = if (6..=9).contains(&kind) { ",7" } else { "" };
+                let json = format!("[[\"{word}\",1,2,3,{said}{sixth}]]");
+                let room = json.len();
+                assert_eq!(list(&entry, room), (0, json));
+                assert_eq!(list(&entry, room - 1), (10, String::new()));
+            }
+        }
     }
 
     #[test]
