@@ -237,9 +237,8 @@ fn numbers_of(listing: &str) -> Option<Vec<Vec<u64>>> {
 
 /// The same numbers, from the table that was listed.
 fn listed_numbers(nodes: &[u8]) -> Vec<Vec<u64>> {
-    let number = |bytes: &[u8]| bytes.iter().rev().fold(0, |number, &byte| number << 8 | byte as u64);
     let rows = nodes.chunks_exact(Node::SIZE).map(|node| {
-        let mut numbers = vec![number(&node[2..4]), number(&node[4..6]), number(&node[6..8]), number(&node[8..])];
+        let mut numbers: Vec<u64> = [2..4, 4..6, 6..8, 8..16].map(|field| reader::number(&node[field])).to_vec();
         if (6..=9).contains(&node[0]) {
             numbers.push(node[1] as u64);
         }

@@ -1169,7 +1169,8 @@ pub fn read(text: &[u8], token_room: usize, node_room: usize) -> Answer {
 
 // ---- the listing
 
-fn number(bytes: &[u8]) -> u64 {
+/// A field of a table's entry.
+pub fn number(bytes: &[u8]) -> u64 {
     bytes.iter().rev().fold(0, |number, &byte| number << 8 | byte as u64)
 }
 
