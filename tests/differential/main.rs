@@ -221,30 +221,36 @@ fn differ<T: PartialEq + std::fmt::Debug>(what: &str, reader: T, library: T) -> 
     Err(format!("{what}: reader {reader:?}, library {library:?}"))
 }
 
-/// The numbers in each row of a listing of nodes, after its word. A string of digits is the number that they spell.
-fn numbers_of(listing: &str) -> Option<Vec<Vec<u64>>> {
-    let rows = listing.strip_prefix('[')?.strip_suffix(']')?;
-    if rows.is_empty() {
-        return Some(Vec::new());
+/// The numbers of a listing of nodes, row by row. A string of digits is the number that they spell.
+fn numbers_of(listing: &[u8]) -> Vec<u64> {
+    let mut numbers = Vec::new();
+    let mut number = None;
+    // a row begins with its kind
+    let mut in_kind = false;
+    for &byte in listing {
+        match byte {
+            b'[' => in_kind = true,
+            b',' | b']' => {
+                numbers.extend(number.take());
+                in_kind = false;
+            }
+            b'0'..=b'9' if !in_kind => number = Some(10 * number.unwrap_or(0) + (byte - b'0') as u64),
+            _ => {}
+        }
     }
-    let number = |field: &str| {
-        let digits = field.strip_prefix('"').and_then(|field| field.strip_suffix('"')).unwrap_or(field);
-        digits.parse().ok()
-    };
-    let rows = rows.strip_prefix('[')?.strip_suffix(']')?.split("],[");
-    rows.map(|row| row.split(',').skip(1).map(number).collect()).collect()
+    numbers
 }
 
 /// The same numbers, from the table that was listed.
-fn listed_numbers(nodes: &[u8]) -> Vec<Vec<u64>> {
-    let rows = nodes.chunks_exact(Node::SIZE).map(|node| {
-        let mut numbers: Vec<u64> = [2..4, 4..6, 6..8, 8..16].map(|field| reader::number(&node[field])).to_vec();
+fn listed_numbers(nodes: &[u8]) -> Vec<u64> {
+    let mut numbers = Vec::new();
+    for node in nodes.chunks_exact(Node::SIZE) {
+        numbers.extend([2..4, 4..6, 6..8, 8..16].map(|field| reader::number(&node[field])));
         if (6..=9).contains(&node[0]) {
             numbers.push(node[1] as u64);
         }
-        numbers
-    });
-    rows.collect()
+    }
+    numbers
 }
 
 impl Desk {
@@ -427,11 +433,9 @@ impl Desk {
         self.out.check(&answer("text"), json.as_bytes(), 64)?;
         self.nodes.check(&answer("nodes"), nodes, Node::SIZE)?;
         if outcome == reader::ACCEPTED {
-            let numbers = listed_numbers(nodes);
-            let said = std::str::from_utf8(&self.out.content()[..size]).ok().and_then(numbers_of);
-            differ(&answer("numbers"), Some(&numbers), said.as_ref())?;
-            for row in &numbers {
-                self.seen.values[(row[3] >= 1 << 53) as usize] += 1;
+            differ(&answer("numbers"), listed_numbers(nodes), numbers_of(&self.out.content()[..size]))?;
+            for node in nodes.chunks_exact(Node::SIZE) {
+                self.seen.values[(reader::number(&node[8..]) >= 1 << 53) as usize] += 1;
             }
         }
         self.seen.listings[outcome as usize] += 1;
