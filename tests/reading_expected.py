@@ -155,7 +155,7 @@ LARGEST_NUMBER = 2**53 - 1
 
 
 def row(kind, *numbers):
-    """Start, end, children and value; the base only of a kind that carries one. A larger value is a string."""
+    """Start, end, children and value; the base only of a kind that carries one. A value above LARGEST_NUMBER is a string."""
     fields = [*numbers[:3], numbers[3] if numbers[3] <= LARGEST_NUMBER else f'"{numbers[3]}"', *numbers[4:]]
     return f'["{kind}",' + ",".join(map(str, fields if kind in BASED else fields[:4])) + "]"
 

@@ -1,4 +1,4 @@
--- The lines that 01 prints, computed. Assumes nothing.
+-- The lines that 01 prints, and the values where their spelling changes, computed. Assumes nothing.
 use mathlib.Core.Path.{_≡_, refl, ap}
 use mathlib.Core.List.{[], _∷_}
 use native.Mathlib.Omega.{arith}
