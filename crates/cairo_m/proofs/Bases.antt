@@ -17,10 +17,9 @@ use Rattle.grammar.proofs.On.{is-token}
 use Rattle.grammar.proofs.Fits as nodes
 use Rattle.grammar.proofs.Bases.{bases}
 use Rattle.cairo_m.specs.declared.Reading.{Reading}
-use Rattle.cairo_m.specs.declared.records.Diagnostic.{Diagnostic as Record}
 use Rattle.cairo_m.specs.Bases.{tokenBase, nodeBase, BasesAre}
 use Rattle.cairo_m.specs.Reading.{input, Outcome, TokensAre, is-nest, is-syntax, is-suffix, is-node-room, is-accepted}
-use Rattle.cairo_m.specs.Reading.{OutcomeIs, is-long, is-encoding, is-lexical, is-token-room, is-lexed, tokensOf, nodesOf, ReadingIs, EntryIs}
+use Rattle.cairo_m.specs.Reading.{OutcomeIs, is-long, is-encoding, is-lexical, is-token-room, is-lexed, tokensOf, nodesOf, ReadingIs}
 use Rattle.cairo_m.proofs.Lexed.{ordered, fits, values, token-bases}
 use Rattle.cairo_m.proofs.Demand3.{each-at}
 
@@ -73,7 +72,3 @@ module _ (text : List ℕ) (k m : ℕ) where
 
 pub bases-are : {text : List ℕ} {k m n : ℕ} {a b c : List ℕ} {r : Reading} → ReadingIs text k m n a b c r → BasesAre text a b
 bases-are {text} {k} {m} v = rw (v .tokens, v .nodes) (by-outcome text k m (v .is))
-
--- the same of what the C entry leaves
-pub entry-bases : {text : List ℕ} {k m n l : ℕ} {a b c : List ℕ} {e : List Record} {o t u d : ℕ} → EntryIs text k m n l a b c e o t u d → BasesAre text a b
-entry-bases v = bases-are (v .numbers .reading)

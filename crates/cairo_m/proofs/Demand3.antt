@@ -14,9 +14,8 @@ use Rattle.grammar.proofs.Whole.{tree-one}
 use Rattle.grammar.proofs.Spans.{Each, no-node, node}
 use Rattle.grammar.proofs.Fits.{fits}
 use Rattle.cairo_m.specs.declared.Reading.{Reading}
-use Rattle.cairo_m.specs.declared.records.Diagnostic.{Diagnostic as Record}
 use Rattle.cairo_m.specs.Reading.{input, Outcome, accepted, syntax, TokensAre, is-nest, is-syntax, is-suffix, is-node-room, is-accepted}
-use Rattle.cairo_m.specs.Reading.{OutcomeIs, is-long, is-encoding, is-lexical, is-token-room, is-lexed, readingOf, nodesOf, ReadingIs, outcomeOf, Counts, countsOf, EntryIs}
+use Rattle.cairo_m.specs.Reading.{OutcomeIs, is-long, is-encoding, is-lexical, is-token-room, is-lexed, readingOf, nodesOf, ReadingIs, outcomeOf, countsOf}
 use Rattle.cairo_m.proofs.Determined.{some-none, errors-one, moved}
 use Rattle.cairo_m.proofs.Lexed.{ordered, values}
 
@@ -91,9 +90,3 @@ demanded {text} m {b} {ts = ts} p (derived {ns = ns} t h) e =
 pub demand-3 : {text : List ℕ} {k m n : ℕ} {a b c : List ℕ} {r : Reading} {ts : List Token} → ReadingIs text k m n a b c r → Premises text (k / 16) (m / 16) ts
     → Demand text ts b (outcomeOf r) (countsOf r .nodes)
 demand-3 {text} {m = m} {b = b} {ts = ts} v p = subst (λ (r : Reading). Demand text ts b (outcomeOf r) (countsOf r .nodes)) (sym (v .answer)) (demanded m p (under p (v .is)) (v .nodes))
-
--- the same of what the C entry answers
-pub at-the-desk : {text : List ℕ} {k m n l : ℕ} {a b c : List ℕ} {e : List Record} {o t u d : ℕ} {ts : List Token} → EntryIs text k m n l a b c e o t u d → Premises text (k / 16) (m / 16) ts → Demand text ts b o u
-at-the-desk {text} {b = b} {ts = ts} v p =
-    let w = v .numbers in
-    rw (w .outcome-is, ap (λ (x : Counts). x .nodes) (w .counts-are)) (demand-3 (w .reading) p)

@@ -4,15 +4,14 @@ use mathlib.Core.List.{List, [], _∷_}
 use Prim.Native.Nat.{ℕ}
 use native.Mathlib.Omega.{arith}
 use lib.ListN.{length}
-use Rattle.tables.specs.Tables.{Token, Diagnostic, tokenTable, nodeTable, diagnosticTable, tabulate}
+use Rattle.tables.specs.Tables.{Token, Diagnostic, tokenTable, nodeTable, diagnosticTable}
 use Rattle.lexer.specs.Lexes.{Lexes}
 use Rattle.lexer.proofs.Determined.{lexes-one}
 use Rattle.grammar.proofs.Whole.{tree-one, stops-one}
 use Rattle.cairo_m.specs.declared.Reading.{Reading}
-use Rattle.cairo_m.specs.declared.records.Diagnostic.{Diagnostic as Record}
 use Rattle.cairo_m.specs.Reading.{Outcome, accepted, lexical, token-room, syntax, suffix, node-room, StopIs, at-token, at-end}
 use Rattle.cairo_m.specs.Reading.{TokensAre, is-nest, is-syntax, is-suffix, is-node-room, is-accepted, OutcomeIs, is-long, is-encoding, is-lexical, is-token-room, is-lexed}
-use Rattle.cairo_m.specs.Reading.{readingOf, tokensOf, nodesOf, diagnosticsOf, ReadingIs, outcomeOf, Counts, countsOf, NumbersAre, recordAt, EntryIs}
+use Rattle.cairo_m.specs.Reading.{readingOf, tokensOf, nodesOf, diagnosticsOf, ReadingIs}
 
 -- ---- what the tokens come to
 pub some-none : {A : Type 0} {a : A} {l : List A} → a ∷ l ≡ [] → ⊥
@@ -87,9 +86,6 @@ outcome-one (is-lexed h u l q a) (is-token-room k v m r) = let e = ap length (le
 outcome-one (is-lexed h u l q a) (is-lexed k v m r b) = tokens-one a (moved m l b)
 
 -- ---- the answers
-abbrev counts : ℕ → ℕ → ℕ → Counts
-counts x y z = record { tokens = x; nodes = y; diagnostics = z }
-
 module _ {text : List ℕ} {k m n : ℕ} {a b c a′ b′ c′ : List ℕ} where
   pub reading-one : {r r′ : Reading} → ReadingIs text k m n a b c r → ReadingIs text k m n a′ b′ c′ r′ → (r ≡ r′) × (a ≡ a′) × (b ≡ b′) × (c ≡ c′)
   reading-one p q =
@@ -99,15 +95,3 @@ module _ {text : List ℕ} {k m n : ℕ} {a b c a′ b′ c′ : List ℕ} where
         p .nodes ∙ ap (λ (o : Outcome). nodeTable m (nodesOf o)) e ∙ sym (q .nodes),
         p .diagnostics ∙ ap (λ (o : Outcome). diagnosticTable n (diagnosticsOf o)) e ∙ sym (q .diagnostics),
       )
-
-  pub numbers-one : {o t u d o′ t′ u′ d′ : ℕ} → NumbersAre text k m n a b c o t u d → NumbersAre text k m n a′ b′ c′ o′ t′ u′ d′
-      → (o ≡ o′) × (counts t u d ≡ counts t′ u′ d′) × (a ≡ a′) × (b ≡ b′) × (c ≡ c′)
-  numbers-one p q =
-      let e = reading-one (p .reading) (q .reading) in
-      (p .outcome-is ∙ ap outcomeOf (e .0) ∙ sym (q .outcome-is), p .counts-are ∙ ap countsOf (e .0) ∙ sym (q .counts-are), e .1, e .2, e .3)
-
-  pub entry-one : {l o t u d o′ t′ u′ d′ : ℕ} {e e′ : List Record} → EntryIs text k m n l a b c e o t u d → EntryIs text k m n l a′ b′ c′ e′ o′ t′ u′ d′
-      → (o ≡ o′) × (counts t u d ≡ counts t′ u′ d′) × (a ≡ a′) × (b ≡ b′) × (c ≡ c′) × (e ≡ e′)
-  entry-one {l} p q =
-      let h = numbers-one (p .numbers) (q .numbers) in
-      (h .0, h .1, h .2, h .3, h .4, p .list ∙ ap (λ (x : List ℕ). tabulate l (recordAt x)) (h .4) ∙ sym (q .list))

@@ -23,7 +23,7 @@ use Rattle.parser.proofs.Uncapped.{uncapped}
 use Rattle.cairo_m.specs.declared.Reading.{Reading}
 use Rattle.cairo_m.specs.declared.Reading.the-variants as Reading
 use Rattle.cairo_m.specs.Reading.{input, Outcome, accepted, lexical, token-room, TokensAre, is-nest, is-syntax, is-suffix, is-node-room, is-accepted}
-use Rattle.cairo_m.specs.Reading.{OutcomeIs, is-long, is-encoding, is-lexical, is-token-room, is-lexed, readingOf, tokensOf, nodesOf, diagnosticsOf, ReadingIs, outcomeOf, countsOf, NumbersAre}
+use Rattle.cairo_m.specs.Reading.{OutcomeIs, is-long, is-encoding, is-lexical, is-token-room, is-lexed, readingOf, tokensOf, nodesOf, diagnosticsOf, ReadingIs, outcomeOf}
 use Rattle.cairo_m.specs.Reading as R
 use Rattle.cairo_m.specs.Suffixes.{TokensRead}
 use Rattle.cairo_m.proofs.Lexed.{ordered, fits, values}
@@ -162,8 +162,3 @@ module _ {text : List ℕ} {k m n t u : ℕ} {a b w C c : List ℕ} {r : Reading
   pub reads-refused : {o : ℕ} → o ≡ outcomeOf r → (o ≡ 0 → ⊥) → {A : List ℕ} → A ≡ cleared 0 a → length a ≡ k → ReadingIs text k m n A b c r
   reads-refused g h f l =
       closes (f ∙ cleared-all a ∙ ap (λ (j : ℕ). replicate j 0) l ∙ sym (rw (none-out (v .outcome) (λ z. h (g ∙ ap outcomeOf (v .answer) ∙ z)) .0) (table-none encodeToken 16 k)))
-
--- ---- the numbers
-pub numbers : {text : List ℕ} {k m n : ℕ} {a b c : List ℕ} {r : Reading} → ReadingIs text k m n a b c r → {o t u d : ℕ} → o ≡ outcomeOf r → t ≡ countsOf r .tokens → u ≡ countsOf r .nodes → d ≡ countsOf r .diagnostics
-    → NumbersAre text k m n a b c o t u d
-numbers {r = r} v o t u d = record { r = r; reading = v; outcome-is = o; counts-are = rw (t, u, d) }

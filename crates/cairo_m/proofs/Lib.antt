@@ -1,10 +1,4 @@
-pub mod Fields
-pub mod Front
-pub mod Lending
-pub mod Locals
-pub mod Walking
 pub mod Lexed
-pub mod Spellings
 pub mod Noting
 pub mod Closing
 pub mod Demand1

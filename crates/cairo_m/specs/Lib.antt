@@ -1,4 +1,3 @@
 pub mod Reading
 pub mod Suffixes
-pub mod Spelling
 pub mod Bases

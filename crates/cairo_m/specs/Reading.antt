@@ -3,14 +3,13 @@ use mathlib.Core.Path.{_≡_}
 use mathlib.Core.List.{List, [], _∷_, map}
 use Prim.Native.Nat.{ℕ, _/_, _≤_, _<_}
 use lib.ListN.{length}
-use Rattle.tables.specs.Tables.{Token, Node, Diagnostic, tokenTable, nodeTable, diagnosticTable, diagnosticAt, tabulate}
+use Rattle.tables.specs.Tables.{Token, Node, Diagnostic, tokenTable, nodeTable, diagnosticTable}
 use Rattle.utf8.specs.Utf8.{Utf8}
 use Rattle.lexer.specs.Lexes.{Lexes}
 use Rattle.grammar.specs.Derive.{Input, token}
 use Rattle.grammar.specs.Grammar.{Tree, Deep, Taken, Stops}
 use Rattle.cairo_m.specs.declared.Reading.{Reading}
 use Rattle.cairo_m.specs.declared.Reading.the-variants as Reading
-use Rattle.cairo_m.specs.declared.records.Diagnostic.{Diagnostic as Diagnostic·}
 
 -- ---- the outcomes
 
@@ -144,20 +143,3 @@ countsOf Reading.Nest = record { tokens = 0; nodes = 0; diagnostics = 0 }
 countsOf (Reading.NodeRoom n) = record { tokens = 0; nodes = n; diagnostics = 0 }
 countsOf Reading.Syntax = record { tokens = 0; nodes = 0; diagnostics = 1 }
 countsOf (Reading.Suffix d) = record { tokens = 0; nodes = 0; diagnostics = d }
-
--- the numbers of the answer r
-pub record NumbersAre (text : List ℕ) (k m n : ℕ) (a b c : List ℕ) (outcome tokens nodes diagnostics : ℕ) : Type 0 where
-  pub r : Reading
-  pub reading : ReadingIs text k m n a b c r
-  pub outcome-is : outcome ≡ outcomeOf r
-  pub counts-are : record { tokens = tokens; nodes = nodes; diagnostics = diagnostics } ≡ countsOf r
-
--- ---- the desk's entry: a list of l records besides
--- entry i of the diagnostic table c as a record, all 0 where the table has no entry i
-abbrev pub recordAt : List ℕ → ℕ → Diagnostic·
-recordAt c i = record { start = diagnosticAt c i .start; end = diagnosticAt c i .end; reason = diagnosticAt c i .reason }
-
--- and e in the list
-pub record EntryIs (text : List ℕ) (k m n l : ℕ) (a b c : List ℕ) (e : List Diagnostic·) (outcome tokens nodes diagnostics : ℕ) : Type 0 where
-  pub numbers : NumbersAre text k m n a b c outcome tokens nodes diagnostics
-  pub list : e ≡ tabulate l (recordAt c)

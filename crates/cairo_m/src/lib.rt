@@ -1,21 +1,13 @@
 // From the bytes of a Cairo-M text to its tree, after parse_file, with 01's outcomes.
-mod entry;
-mod names;
-mod records;
 mod suffixes;
 
 use crate::suffixes::read_tokens;
-pub use entry::cairo_m_read;
-pub use entry::cairo_m_spelling;
-pub use entry::outcome_of;
-pub use entry::read_numbers;
 use lexer::Answer;
 use lexer::lex_alone;
-pub use names::spelling;
-pub use records::Diagnostic;
 use tables::clear_from;
+ghost use mathlib.Core.Path.{_≡_};
 ghost use lib.ListN.{length};
-ghost use Rattle.cairo_m.specs.Reading.{ReadingIs};
+ghost use Rattle.cairo_m.specs.Reading.{outcomeOf, ReadingIs};
 
 // The outcomes of a reading, with how many tokens, nodes or errors there are.
 pub enum Reading {
@@ -28,6 +20,26 @@ pub enum Reading {
     NodeRoom(usize),
     Syntax,
     Suffix(usize),
+}
+
+// The outcome's number.
+pub fn outcome_of(r: Reading) -> u32
+    ensures { λ o. ⌜ o ≡ outcomeOf r ⌝ }
+{
+    match r {
+        Reading::Accepted {
+            tokens: _,
+            nodes: _,
+        } => 0,
+        Reading::Long => 1,
+        Reading::Encoding => 2,
+        Reading::Lexical(_) => 3,
+        Reading::TokenRoom(_) => 4,
+        Reading::Nest => 5,
+        Reading::NodeRoom(_) => 6,
+        Reading::Syntax => 7,
+        Reading::Suffix(_) => 8,
+    }
 }
 
 // Reads a text into the tables. What is not used of them is zero, and after a refusal the token and node tables are all zero.

@@ -1,5 +1,5 @@
 // Prints the tree of the Cairo-M text on standard input, or why it is refused: one line of JSON.
-use cairo_m::read_numbers;
+use entries::read_numbers;
 use listing::Listed;
 use listing::list;
 use listing::list_refused;

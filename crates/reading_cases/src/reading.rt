@@ -1,5 +1,5 @@
 // One reading, and what it left.
-use cairo_m::read_numbers;
+use entries::read_numbers;
 use case_io::field;
 use case_io::stray;
 use case_io::words;

@@ -1,7 +1,7 @@
 use borrow.Author.Needs.{needs}
-use Rattle.cairo_m.proofs.Joining.{numbers}
-use Rattle.cairo_m.proofs.entry.read_numbers.Statement.{statement}
-use Rattle.cairo_m.proofs.entry.read_numbers.Tie as tie
+use Rattle.entries.proofs.Desk.{numbers}
+use Rattle.entries.proofs.reading.read_numbers.Statement.{statement}
+use Rattle.entries.proofs.reading.read_numbers.Tie as tie
 
 pub read-numbers-spec : {M : Type 1} → statement M
 read-numbers-spec =

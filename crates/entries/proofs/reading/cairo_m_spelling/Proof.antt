@@ -1,8 +1,8 @@
 use mathlib.Core.Path.{ap}
 use lib.ListN.{length}
 use borrow.Author.Needs.{needs}
-use Rattle.cairo_m.proofs.entry.cairo_m_spelling.Statement.{statement}
-use Rattle.cairo_m.proofs.entry.cairo_m_spelling.Tie as tie
+use Rattle.entries.proofs.reading.cairo_m_spelling.Statement.{statement}
+use Rattle.entries.proofs.reading.cairo_m_spelling.Tie as tie
 
 pub cairo-m-spelling-spec : {M : Type 1} → statement M
 cairo-m-spelling-spec =

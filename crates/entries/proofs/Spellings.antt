@@ -6,7 +6,7 @@ use Prim.Native.Nat.{ℕ, _-_, _≤_, _<_}
 use lib.Dec.{eqb, leb}
 use lib.ListN.{length, take, drop}
 use borrow.Author.Tests.{le-leb, lt-leb, ne-eqb}
-use Rattle.cairo_m.specs.Spelling.{spelt, spellingOf}
+use Rattle.entries.specs.Spelling.{spelt, spellingOf}
 
 -- ---- the kinds
 module _ {k : ℕ} where

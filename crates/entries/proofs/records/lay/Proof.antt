@@ -50,23 +50,23 @@ use Rattle.tables.proofs.diagnostic.end.Met as end-thm
 use Rattle.tables.proofs.diagnostic.reason.Symbol as reason-def
 use Rattle.tables.proofs.diagnostic.reason.Symbol.{name as #reason}
 use Rattle.tables.proofs.diagnostic.reason.Met as reason-thm
-use Rattle.cairo_m.specs.declared.records.Diagnostic.{Diagnostic}
-use Rattle.cairo_m.specs.Reading.{recordAt}
-use Rattle.cairo_m.proofs.Fields.{Reading, reads}
-use Rattle.cairo_m.proofs.Front.{front, front-start, front-length, front-next, front-all, length-tabulate}
-use Rattle.cairo_m.proofs.Lending.{Mut, lends-mut, mut-back}
-use Rattle.cairo_m.proofs.Locals.{local, slice-start, slice-count, sets, lands-in, takes, answers, freed, freed-empty}
-use Rattle.cairo_m.proofs.Walking.{begins, ends, Meeting, calls, unit}
-use Rattle.cairo_m.proofs.records.Diagnostic as T
-use Rattle.cairo_m.proofs.records.store as storing
-use Rattle.cairo_m.proofs.records.store.Symbol as storing-def
-use Rattle.cairo_m.proofs.records.store.Symbol.{name as #store}
-use Rattle.cairo_m.proofs.records.store.Met as storing-thm
-use Rattle.cairo_m.proofs.records.lay.Key.{name as #lay}
-use Rattle.cairo_m.proofs.records.lay as f
-use Rattle.cairo_m.proofs.records.lay.Statement as stated
-use Rattle.cairo_m.proofs.records.lay.Code as code
-use Rattle.cairo_m.proofs.records.lay.Code.Mir as body
+use Rattle.entries.specs.declared.records.Diagnostic.{Diagnostic}
+use Rattle.entries.specs.Numbers.{recordAt}
+use Rattle.entries.proofs.Fields.{Reading, reads}
+use Rattle.entries.proofs.Front.{front, front-start, front-length, front-next, front-all, length-tabulate}
+use Rattle.entries.proofs.Lending.{Mut, lends-mut, mut-back}
+use Rattle.entries.proofs.Locals.{local, slice-start, slice-count, sets, lands-in, takes, answers, freed, freed-empty}
+use Rattle.entries.proofs.Walking.{begins, ends, Meeting, calls, unit}
+use Rattle.entries.proofs.records.Diagnostic as T
+use Rattle.entries.proofs.records.store as storing
+use Rattle.entries.proofs.records.store.Symbol as storing-def
+use Rattle.entries.proofs.records.store.Symbol.{name as #store}
+use Rattle.entries.proofs.records.store.Met as storing-thm
+use Rattle.entries.proofs.records.lay.Key.{name as #lay}
+use Rattle.entries.proofs.records.lay as f
+use Rattle.entries.proofs.records.lay.Statement as stated
+use Rattle.entries.proofs.records.lay.Code as code
+use Rattle.entries.proofs.records.lay.Code.Mir as body
 
 abbrev stayed : Stays (f.ended .signature .params) (f.ended .kept)
 stayed = (stay-slice (0 ∷ []) tt (plain (λ _. T.the-row)), (stay-none-slice (1 ∷ []) tt (plain (λ _. u8)) yes, tt))
@@ -252,5 +252,5 @@ lay-spec 𝓤 H 𝓜 𝓖 𝓡 =
       starts = cited 𝓤 H (Reading 𝓤 H (𝓖 .A) w16 start-of) 𝓜 𝓡 code.env #start start-def.routine code.calls-tables·diagnostic·start (start-thm.met 𝓤 H 𝓜 𝓖 𝓡);
       ends-at = cited 𝓤 H (Reading 𝓤 H (𝓖 .A) w16 end-of) 𝓜 𝓡 code.env #end end-def.routine code.calls-tables·diagnostic·end (end-thm.met 𝓤 H 𝓜 𝓖 𝓡);
       reasons = cited 𝓤 H (Reading 𝓤 H (𝓖 .A) w8 reason-of) 𝓜 𝓡 code.env #reason reason-def.routine code.calls-tables·diagnostic·reason (reason-thm.met 𝓤 H 𝓜 𝓖 𝓡);
-      stores = cited 𝓤 H (Meeting 𝓤 H (𝓖 .A) storing.ended (storing.clauses 𝓤 H (𝓖 .A) (𝓜 .mem) (𝓡 .run))) 𝓜 𝓡 code.env #store storing-def.routine code.calls-cairo-m·records·store (storing-thm.met 𝓤 H 𝓜 𝓖 𝓡);
+      stores = cited 𝓤 H (Meeting 𝓤 H (𝓖 .A) storing.ended (storing.clauses 𝓤 H (𝓖 .A) (𝓜 .mem) (𝓡 .run))) 𝓜 𝓡 code.env #store storing-def.routine code.calls-entries·records·store (storing-thm.met 𝓤 H 𝓜 𝓖 𝓡);
     })

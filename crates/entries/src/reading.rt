@@ -1,33 +1,15 @@
-// The entries for C.
-use crate::Reading;
+// A reading as numbers, and the spelling of a name, for C.
+use cairo_m::Reading;
+use cairo_m::outcome_of;
+use cairo_m::read;
 use crate::names::spelling;
-use crate::read;
 use crate::records::Diagnostic;
 use crate::records::lay;
 ghost use mathlib.Core.Path.{_≡_};
 ghost use lib.ListN.{length};
-ghost use Rattle.cairo_m.specs.Reading.{outcomeOf, countsOf, NumbersAre, EntryIs};
-ghost use Rattle.cairo_m.specs.Spelling.{spellingOf};
-
-// The outcome's number.
-pub fn outcome_of(r: Reading) -> u32
-    ensures { λ o. ⌜ o ≡ outcomeOf r ⌝ }
-{
-    match r {
-        Reading::Accepted {
-            tokens: _,
-            nodes: _,
-        } => 0,
-        Reading::Long => 1,
-        Reading::Encoding => 2,
-        Reading::Lexical(_) => 3,
-        Reading::TokenRoom(_) => 4,
-        Reading::Nest => 5,
-        Reading::NodeRoom(_) => 6,
-        Reading::Syntax => 7,
-        Reading::Suffix(_) => 8,
-    }
-}
+ghost use Rattle.cairo_m.specs.Reading.{countsOf};
+ghost use Rattle.entries.specs.Numbers.{NumbersAre, EntryIs};
+ghost use Rattle.entries.specs.Spelling.{spellingOf};
 
 // The number of tokens that the answer speaks of.
 fn token_count_of(r: Reading) -> usize

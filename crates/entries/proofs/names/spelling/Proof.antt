@@ -1,7 +1,7 @@
 use borrow.Author.Needs.{needs}
-use Rattle.cairo_m.proofs.Spellings.{spelt-there, not-spelt, turned-span, outside-text}
-use Rattle.cairo_m.proofs.names.spelling.Statement.{statement}
-use Rattle.cairo_m.proofs.names.spelling.Tie as tie
+use Rattle.entries.proofs.Spellings.{spelt-there, not-spelt, turned-span, outside-text}
+use Rattle.entries.proofs.names.spelling.Statement.{statement}
+use Rattle.entries.proofs.names.spelling.Tie as tie
 
 pub spelling-spec : {M : Type 1} → statement M
 spelling-spec =

@@ -1,4 +1,4 @@
--- `entry::cairo_m_read` meets its contract: a walk of its MIR, by hand, with two calls. Assumes nothing.
+-- `reading::cairo_m_read` meets its contract: a walk of its MIR, by hand, with two calls. Assumes nothing.
 use mathlib.Core.Path.{refl, sym}
 use Prim.Native.Nat.{ℕ, _<_, _^_}
 use mathlib.Core.List.{[], _∷_, List}
@@ -35,23 +35,23 @@ use denote.Triple.Statement.{Triple}
 use denote.Triple.Table.{entered, cited}
 use denote.Triple.Walked.{Stays, stay-slice, stay-none-slice, gave-slice, gave-ref, walkOf, goes-slice, goes-none-slice, goes-gave-slice, goes-gave-ref, Walks, walked, walk-meets}
 use denote.Exit.{yes}
-use Rattle.cairo_m.specs.declared.records.Diagnostic.{Diagnostic}
-use Rattle.cairo_m.proofs.Lending.{lends-mut, mut-back, lends-shr, shr-back}
-use Rattle.cairo_m.proofs.Locals.{local, slice-start, slice-count, behind, sets, lands-in, takes, answers, freed}
-use Rattle.cairo_m.proofs.Walking.{begins, ends, Meeting, calls, number, unit, measured}
-use Rattle.cairo_m.proofs.records.Diagnostic as T
-use Rattle.cairo_m.proofs.records.lay as lay
-use Rattle.cairo_m.proofs.records.lay.Symbol as lay-def
-use Rattle.cairo_m.proofs.records.lay.Symbol.{name as #lay}
-use Rattle.cairo_m.proofs.records.lay.Met as lay-thm
-use Rattle.cairo_m.proofs.entry.read_numbers as numbers
-use Rattle.cairo_m.proofs.entry.read_numbers.Symbol as numbers-def
-use Rattle.cairo_m.proofs.entry.read_numbers.Symbol.{name as #numbers}
-use Rattle.cairo_m.proofs.entry.read_numbers.Met as numbers-thm
-use Rattle.cairo_m.proofs.entry.cairo_m_read.Key.{name as #read}
-use Rattle.cairo_m.proofs.entry.cairo_m_read as f
-use Rattle.cairo_m.proofs.entry.cairo_m_read.Statement as stated
-use Rattle.cairo_m.proofs.entry.cairo_m_read.Code as code
+use Rattle.entries.specs.declared.records.Diagnostic.{Diagnostic}
+use Rattle.entries.proofs.Lending.{lends-mut, mut-back, lends-shr, shr-back}
+use Rattle.entries.proofs.Locals.{local, slice-start, slice-count, behind, sets, lands-in, takes, answers, freed}
+use Rattle.entries.proofs.Walking.{begins, ends, Meeting, calls, number, unit, measured}
+use Rattle.entries.proofs.records.Diagnostic as T
+use Rattle.entries.proofs.records.lay as lay
+use Rattle.entries.proofs.records.lay.Symbol as lay-def
+use Rattle.entries.proofs.records.lay.Symbol.{name as #lay}
+use Rattle.entries.proofs.records.lay.Met as lay-thm
+use Rattle.entries.proofs.reading.read_numbers as numbers
+use Rattle.entries.proofs.reading.read_numbers.Symbol as numbers-def
+use Rattle.entries.proofs.reading.read_numbers.Symbol.{name as #numbers}
+use Rattle.entries.proofs.reading.read_numbers.Met as numbers-thm
+use Rattle.entries.proofs.reading.cairo_m_read.Key.{name as #read}
+use Rattle.entries.proofs.reading.cairo_m_read as f
+use Rattle.entries.proofs.reading.cairo_m_read.Statement as stated
+use Rattle.entries.proofs.reading.cairo_m_read.Code as code
 
 -- tokens, nodes, the three counts and the list are given to the callees for good
 abbrev stayed : Stays (f.ended .signature .params) (f.ended .kept)
@@ -156,5 +156,5 @@ cairo-m-read-spec 𝓤 H 𝓜 𝓖 𝓡 =
     entered 𝓤 H (tripleOf 𝓤 H (𝓖 .A) f.signature (f.spec 𝓤 H (𝓖 .A) (𝓜 .mem) (𝓡 .run)))
     (tables 𝓤 H 𝓜 𝓡 code.env .C) (tables 𝓤 H 𝓜 𝓡 code.env .Λ) #read code.function (code.unfolded 𝓤 H 𝓜 𝓡)
     (read-meets 𝓤 H (𝓖 .A) (givenOf 𝓤 H 𝓜 𝓖) (𝓜 .mem) (𝓡 .run) (tablesOf 𝓤 H 𝓜 (tables 𝓤 H 𝓜 𝓡 code.env))
-    (cited 𝓤 H (Meeting 𝓤 H (𝓖 .A) numbers.ended (numbers.clauses 𝓤 H (𝓖 .A) (𝓜 .mem) (𝓡 .run))) 𝓜 𝓡 code.env #numbers numbers-def.routine code.calls-cairo-m·entry·read-numbers (numbers-thm.met 𝓤 H 𝓜 𝓖 𝓡))
-    (cited 𝓤 H (Meeting 𝓤 H (𝓖 .A) lay.ended (lay.clauses 𝓤 H (𝓖 .A) (𝓜 .mem) (𝓡 .run))) 𝓜 𝓡 code.env #lay lay-def.routine code.calls-cairo-m·records·lay (lay-thm.met 𝓤 H 𝓜 𝓖 𝓡)))
+    (cited 𝓤 H (Meeting 𝓤 H (𝓖 .A) numbers.ended (numbers.clauses 𝓤 H (𝓖 .A) (𝓜 .mem) (𝓡 .run))) 𝓜 𝓡 code.env #numbers numbers-def.routine code.calls-entries·reading·read-numbers (numbers-thm.met 𝓤 H 𝓜 𝓖 𝓡))
+    (cited 𝓤 H (Meeting 𝓤 H (𝓖 .A) lay.ended (lay.clauses 𝓤 H (𝓖 .A) (𝓜 .mem) (𝓡 .run))) 𝓜 𝓡 code.env #lay lay-def.routine code.calls-entries·records·lay (lay-thm.met 𝓤 H 𝓜 𝓖 𝓡)))

@@ -4,7 +4,7 @@ ghost use mathlib.Core.Path.{_≡_};
 ghost use Prim.Native.Nat.{_<_};
 ghost use lib.ListN.{length, set};
 ghost use Rattle.tables.specs.Tables.{tabulate};
-ghost use Rattle.cairo_m.specs.Reading.{recordAt};
+ghost use Rattle.entries.specs.Numbers.{recordAt};
 
 // A span and the reason: 1 character, 2 overflow, 3 format, 4 unknown suffix.
 #[repr(C)]

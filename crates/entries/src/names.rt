@@ -3,7 +3,7 @@ use grammar::node_kind::IDENTIFIER;
 use grammar::node_kind::NAME;
 use grammar::node_kind::NAMED;
 ghost use mathlib.Core.Path.{_≡_};
-ghost use Rattle.cairo_m.specs.Spelling.{spelt, spellingOf};
+ghost use Rattle.entries.specs.Spelling.{spelt, spellingOf};
 
 // Nodes of this kind have a spelling.
 fn is_spelt(kind: u8) -> bool

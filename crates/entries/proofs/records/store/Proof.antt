@@ -37,15 +37,15 @@ use denote.Triple.Table.{entered}
 use denote.Triple.Walked.{needs, Stays, stay-slice, stay-none, walkOf, goes-slice, goes-none, Walks, walked, walk-meets}
 use denote.Exit.{yes}
 use native.Mathlib.Omega.{arith}
-use Rattle.cairo_m.specs.declared.records.Diagnostic.{Diagnostic}
-use Rattle.cairo_m.proofs.Locals.{local, sets, takes, answers, freed}
-use Rattle.cairo_m.proofs.Walking.{begins, ends}
-use Rattle.cairo_m.proofs.records.Diagnostic as T
-use Rattle.cairo_m.proofs.records.Diagnostic.Laws as T′
-use Rattle.cairo_m.proofs.records.store.Key.{name as #store}
-use Rattle.cairo_m.proofs.records.store as f
-use Rattle.cairo_m.proofs.records.store.Statement as stated
-use Rattle.cairo_m.proofs.records.store.Code as code
+use Rattle.entries.specs.declared.records.Diagnostic.{Diagnostic}
+use Rattle.entries.proofs.Locals.{local, sets, takes, answers, freed}
+use Rattle.entries.proofs.Walking.{begins, ends}
+use Rattle.entries.proofs.records.Diagnostic as T
+use Rattle.entries.proofs.records.Diagnostic.Laws as T′
+use Rattle.entries.proofs.records.store.Key.{name as #store}
+use Rattle.entries.proofs.records.store as f
+use Rattle.entries.proofs.records.store.Statement as stated
+use Rattle.entries.proofs.records.store.Code as code
 
 abbrev stayed : Stays (f.ended .signature .params) (f.ended .kept)
 stayed = (stay-slice (0 ∷ []) tt (plain (λ _. T.the-row)), (stay-none (λ _. usize) yes, (stay-none (λ _. u16) yes, (stay-none (λ _. u16) yes, (stay-none (λ _. u8) yes, tt)))))

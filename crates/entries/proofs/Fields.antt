@@ -23,7 +23,7 @@ use denote.Signature.{plain}
 use denote.Triple.Statement.{Contract, Triple}
 use denote.Triple.Clauses.{Clauses, Ended}
 use denote.Exit.{yes}
-use Rattle.cairo_m.proofs.Walking.{Meeting, calls, number}
+use Rattle.entries.proofs.Walking.{Meeting, calls, number}
 
 abbrev reading : Width → Ended
 reading w = record {

@@ -1,7 +1,7 @@
 use borrow.Author.Needs.{needs}
-use Rattle.cairo_m.proofs.Spellings.{a-name, a-type-name, an-identifier}
-use Rattle.cairo_m.proofs.names.is_spelt.Statement.{statement}
-use Rattle.cairo_m.proofs.names.is_spelt.Tie as tie
+use Rattle.entries.proofs.Spellings.{a-name, a-type-name, an-identifier}
+use Rattle.entries.proofs.names.is_spelt.Statement.{statement}
+use Rattle.entries.proofs.names.is_spelt.Tie as tie
 
 pub is-spelt-spec : {M : Type 1} → statement M
 is-spelt-spec =
