@@ -18,7 +18,7 @@ fn list(text: &[u8]) {
     let mut diagnostics = [0u8; 8192];
     let mut token_count: usize = 0;
     let mut diagnostic_count: usize = 0;
-    let outcome = lexer::cairo_m_lex(
+    let outcome = entries::cairo_m_lex(
         text,
         &mut tokens,
         &mut diagnostics,

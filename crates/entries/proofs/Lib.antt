@@ -4,4 +4,7 @@ pub mod Lending
 pub mod Locals
 pub mod Walking
 pub mod Spellings
+pub mod NumeralAnswers
+pub mod LexAnswers
 pub mod Desk
+pub mod ListAnswers

@@ -1,2 +1,5 @@
+pub mod Numerals
+pub mod Tokens
 pub mod Numbers
 pub mod Spelling
+pub mod Lists

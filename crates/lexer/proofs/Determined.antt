@@ -9,7 +9,7 @@ use Rattle.utf8.proofs.Laws.{begins-some, begins-size}
 use Rattle.numeral.specs.Numeral.{numeralOf}
 use Rattle.lexer.specs.Tokens.{Best, Spells}
 use Rattle.lexer.specs.Lexes.{Item, itemOf, Step, matched, strange, Lexes, done, step}
-use Rattle.lexer.specs.Answers.{Result, lexed, ResultIs, too-long, not-utf8, lexes, lexedOf, tokensOf, diagnosticsOf, LexedIs, answerOf, outcomeOf, tokenCountOf, diagnosticCountOf, tokensAfter, AnswerIs, EntryIs}
+use Rattle.lexer.specs.Answers.{Result, lexed, ResultIs, too-long, not-utf8, lexes, lexedOf, tokensOf, diagnosticsOf, LexedIs, answerOf, tokensAfter, AnswerIs}
 use Rattle.lexer.specs.declared.lexing.Lexed.{Lexed}
 use Rattle.lexer.specs.declared.entry.Answer.{Answer}
 use Rattle.lexer.proofs.Leads.{spells-some}
@@ -65,8 +65,3 @@ module _ {text : List ℕ} {n m : ℕ} {a b a′ b′ : List ℕ} where
       let e = result-one (p .is) (q .is) in
       let f = p .answer ∙ ap (answerOf n) e ∙ sym (q .answer) in
       (f, p .tokens ∙ ap₂ (tokensAfter n) e f ∙ sym (q .tokens), p .diagnostics ∙ ap (diagnosticsOf m) e ∙ sym (q .diagnostics))
-
-  pub entry-one : {o t d o′ t′ d′ : ℕ} → EntryIs text n m a b o t d → EntryIs text n m a′ b′ o′ t′ d′ → (o ≡ o′) × (t ≡ t′) × (d ≡ d′) × (a ≡ a′) × (b ≡ b′)
-  entry-one p q =
-      let e = answer-one (p .answered) (q .answered) in
-      (p .outcome-is ∙ ap outcomeOf (e .0) ∙ sym (q .outcome-is), p .tokens-are ∙ ap tokenCountOf (e .0) ∙ sym (q .tokens-are), p .diagnostics-are ∙ ap diagnosticCountOf (e .0) ∙ sym (q .diagnostics-are), e .1, e .2)

@@ -8,7 +8,7 @@ use borrow.Author.Tests.{lt-ltb, le-ltb}
 use Rattle.tables.specs.Tables.{Token, Diagnostic, cleared}
 use Rattle.tables.specs.Suffix.{unknownNumerals}
 use Rattle.tables.proofs.Laws.{cleared-all}
-use Rattle.lexer.specs.Answers.{Result, long, encoding, lexed, ResultIs, lexedOf, tokensOf, diagnosticsOf, LexedIs, answerOf, AnswerIs, outcomeOf, tokenCountOf, diagnosticCountOf, EntryIs, zeros}
+use Rattle.lexer.specs.Answers.{Result, long, encoding, lexed, ResultIs, lexedOf, tokensOf, diagnosticsOf, LexedIs, answerOf, AnswerIs, zeros}
 use Rattle.lexer.specs.declared.lexing.Lexed.{Lexed}
 use Rattle.lexer.specs.declared.lexing.Lexed.the-variants as Lexed
 use Rattle.lexer.specs.declared.entry.Answer.{Answer}
@@ -97,8 +97,3 @@ module _ {text : List ℕ} {n m : ℕ} {a b : List ℕ} {r : Lexed} (w : LexedIs
           tokens = w .tokens;
           diagnostics = w .diagnostics;
         }
-
--- the C entry's numbers
-module _ {text : List ℕ} {n m : ℕ} {a b : List ℕ} {r : Answer} (w : AnswerIs text n m a b r) (s : Answer) (e : r ≡ s) where
-  pub numbers : EntryIs text n m a b (outcomeOf s) (tokenCountOf s) (diagnosticCountOf s)
-  numbers = record { r = s; answered = subst (AnswerIs text n m a b) e w; outcome-is = refl; tokens-are = refl; diagnostics-are = refl }

@@ -62,30 +62,6 @@ answerOf n encoding = Answer.Encoding
 answerOf n (lexed ts (d ∷ ds)) = Answer.Lexical (length (d ∷ ds))
 answerOf n (lexed ts []) = cond (ltb (n / 16) (length ts)) (Answer.TokenRoom (length ts)) (Answer.Accepted (length ts) (length (unknownNumerals ts)))
 
--- the paper's number of the outcome, and the numbers of tokens and of diagnostics
-abbrev pub outcomeOf : Answer → ℕ
-outcomeOf (Answer.Accepted t u) = 0
-outcomeOf Answer.Long = 1
-outcomeOf Answer.Encoding = 2
-outcomeOf (Answer.Lexical d) = 3
-outcomeOf (Answer.TokenRoom t) = 4
-
--- the number of tokens that an answer gives: of all, also where the table has no room
-abbrev pub tokenCountOf : Answer → ℕ
-tokenCountOf (Answer.Accepted t u) = t
-tokenCountOf Answer.Long = 0
-tokenCountOf Answer.Encoding = 0
-tokenCountOf (Answer.Lexical d) = 0
-tokenCountOf (Answer.TokenRoom t) = t
-
--- the number of lexical errors that it gives, with outcome 3 alone
-abbrev pub diagnosticCountOf : Answer → ℕ
-diagnosticCountOf (Answer.Accepted t u) = 0
-diagnosticCountOf Answer.Long = 0
-diagnosticCountOf Answer.Encoding = 0
-diagnosticCountOf (Answer.Lexical d) = d
-diagnosticCountOf (Answer.TokenRoom t) = 0
-
 -- after a refusal the token table is all zero, and only outcome 3 has diagnostics
 abbrev pub tokensAfter : ℕ → Result → Answer → List ℕ
 tokensAfter n x (Answer.Accepted t u) = tokensOf n x
@@ -101,11 +77,3 @@ pub record AnswerIs (text : List ℕ) (n m : ℕ) (a b : List ℕ) (r : Answer) 
   pub answer : r ≡ answerOf n result
   pub tokens : a ≡ tokensAfter n result r
   pub diagnostics : b ≡ diagnosticsOf m result
-
--- the C entry: the numbers of the answer r
-pub record EntryIs (text : List ℕ) (n m : ℕ) (a b : List ℕ) (outcome tokens diagnostics : ℕ) : Type 0 where
-  pub r : Answer
-  pub answered : AnswerIs text n m a b r
-  pub outcome-is : outcome ≡ outcomeOf r
-  pub tokens-are : tokens ≡ tokenCountOf r
-  pub diagnostics-are : diagnostics ≡ diagnosticCountOf r

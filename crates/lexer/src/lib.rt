@@ -5,7 +5,6 @@ mod lexing;
 mod scan;
 
 pub use entry::Answer;
-pub use entry::cairo_m_lex;
 pub use entry::lex_alone;
 pub use lexing::Lexed;
 pub use lexing::lex;

@@ -25,7 +25,7 @@ pub fn answer(text: &[u8], token_bytes: usize, diagnostic_bytes: usize) {
 fn lexed(text: &[u8], tokens: &mut [u8], diagnostics: &mut [u8]) {
     let mut token_count: usize = 0xAAAA_AAAA_AAAA_AAAA;
     let mut diagnostic_count: usize = 0xAAAA_AAAA_AAAA_AAAA;
-    let outcome = lexer::cairo_m_lex(
+    let outcome = entries::cairo_m_lex(
         text,
         tokens,
         diagnostics,

@@ -61,7 +61,7 @@ fn numeral_entry(spelling: &[u8]) {
     let mut suffix: u8 = 0xAA;
     let mut base: u8 = 0xAA;
     let mut reason: u8 = 0xAA;
-    let outcome = numeral::cairo_m_numeral(
+    let outcome = entries::cairo_m_numeral(
         spelling,
         &mut value,
         &mut suffix,

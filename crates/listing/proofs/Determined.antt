@@ -2,14 +2,10 @@
 use mathlib.Core.Path.{_≡_, sym, _∙_}
 use mathlib.Core.List.{List}
 use Prim.Native.Nat.{ℕ}
-use Rattle.listing.specs.Answers.{Result, ListedIs, EntryIs}
+use Rattle.listing.specs.Answers.{Result, ListedIs}
 use Rattle.listing.specs.declared.Listed.{Listed}
 
 module _ {x : Result} {n : ℕ} {out out′ : List ℕ} where
   -- of `list` and of `list_refused`, whose results are functions of the input
   pub listed-one : {r r′ : Listed} → ListedIs x n out r → ListedIs x n out′ r′ → (r ≡ r′) × (out ≡ out′)
   listed-one p q = (p .answer ∙ sym (q .answer), p .bytes ∙ sym (q .bytes))
-
-  -- of their C entries
-  pub entry-one : {s o s′ o′ : ℕ} → EntryIs x n out s o → EntryIs x n out′ s′ o′ → (o ≡ o′) × (s ≡ s′) × (out ≡ out′)
-  entry-one p q = (p .outcome-is ∙ sym (q .outcome-is), p .size-is ∙ sym (q .size-is), p .bytes ∙ sym (q .bytes))

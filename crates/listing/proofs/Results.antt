@@ -1,5 +1,5 @@
 -- From what is written to what is answered. Assumes nothing.
-use mathlib.Core.Path.{_≡_, refl, ap, _∙_}
+use mathlib.Core.Path.{_≡_, refl, _∙_}
 use mathlib.Core.Bool.{Bool, true, false}
 use mathlib.Core.List.{List, []}
 use Prim.Native.Nat.{ℕ, zero-le}
@@ -7,7 +7,7 @@ use lib.ListN.{length}
 use Rattle.tables.specs.Tables.{Node, cleared}
 use Rattle.tables.proofs.Laws.{cleared-all}
 use Rattle.listing.specs.Json.{listing}
-use Rattle.listing.specs.Answers.{Result, allKnown, fitted, listed, sizeOf, outcomeOf, ListedIs, EntryIs}
+use Rattle.listing.specs.Answers.{allKnown, fitted, listed, ListedIs}
 use Rattle.listing.specs.Writes.{held, Writes, Finishes}
 use Rattle.listing.specs.declared.Listed.{Listed}
 use Rattle.listing.specs.declared.Listed.the-variants.{Kind}
@@ -22,6 +22,3 @@ all-known ns e f p = rw (← e, f) p
 pub some-unknown : (ns : List Node) (T : List ℕ) {U : List ℕ} {b : Bool} → b ≡ allKnown ns → b ≡ false → U ≡ cleared 0 T → ListedIs (listed (length T) ns) (length T) U Kind
 unfolding listed
 some-unknown ns T e f g = rw (← e, f) record { answer = refl; bytes = g ∙ cleared-all T }
-
-pub numbers : {x : Result} {n size outcome : ℕ} {out : List ℕ} {r : Listed} → ListedIs x n out r → size ≡ sizeOf r → outcome ≡ outcomeOf r → EntryIs x n out size outcome
-numbers p s o = record { outcome-is = o ∙ ap outcomeOf (p .answer); size-is = s ∙ ap sizeOf (p .answer); bytes = p .bytes }

@@ -49,25 +49,7 @@ outOf n (text w) = filled n w
 outOf n kind = replicate n 0
 outOf n room = replicate n 0
 
--- 01's numbers of the outcomes
-abbrev pub outcomeOf : Listed → ℕ
-outcomeOf (Listed.Text n) = 0
-outcomeOf Listed.Room = 10
-outcomeOf Listed.Kind = 11
-
--- the text's length; refused, 0
-abbrev pub sizeOf : Listed → ℕ
-sizeOf (Listed.Text n) = n
-sizeOf Listed.Room = 0
-sizeOf Listed.Kind = 0
-
 -- the answer r, with the bytes out
 pub record ListedIs (x : Result) (n : ℕ) (out : List ℕ) (r : Listed) : Type 0 where
   pub answer : r ≡ answerOf x
-  pub bytes : out ≡ outOf n x
-
--- the C entry: the answer's numbers
-pub record EntryIs (x : Result) (n : ℕ) (out : List ℕ) (size outcome : ℕ) : Type 0 where
-  pub outcome-is : outcome ≡ outcomeOf (answerOf x)
-  pub size-is : size ≡ sizeOf (answerOf x)
   pub bytes : out ≡ outOf n x

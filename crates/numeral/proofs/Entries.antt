@@ -1,5 +1,5 @@
 -- The numeral entry: what `is_spelling` decides, and that its answers are determined. Assumes nothing.
-use mathlib.Core.Path.{_≡_, refl, sym, ap, subst, _∙_}
+use mathlib.Core.Path.{_≡_, refl, sym, subst, _∙_}
 use mathlib.Core.Bool.{Bool, true, false, cond, not, _||_, false≢true, and-false}
 use mathlib.Core.List.{List, [], _∷_}
 use Prim.Native.Nat.{ℕ, _+_, _≤_, _<_}
@@ -16,7 +16,7 @@ use Rattle.patterns.proofs.Runs.{Passed, passed-more, passed-stop, passed-end, 
 use Rattle.numeral.specs.Spelling.{Spelling}
 use Rattle.numeral.specs.Numeral.{digitOf, numeralOf}
 use Rattle.numeral.specs.Steps.{spelled}
-use Rattle.numeral.specs.Entry.{AnswerIs, Answered, long, spelling, overflow, format, number, outcomeOf, valueOf, suffixOf, baseOf, reasonOf}
+use Rattle.numeral.specs.Entry.{AnswerIs, long, spelling, overflow, format, number}
 use Rattle.numeral.specs.declared.NumberLiteral.{NumberLiteral}
 use Rattle.numeral.specs.declared.NumberLiteral.the-variants as literal
 use Rattle.numeral.specs.declared.outcome.Answer.{Answer}
@@ -108,7 +108,7 @@ module _ (s : List ℕ) (r : Bool) (h : length s ≤ 65535) (e : r ≡ spelled s
   pub answer-number : (l : NumberLiteral) (v x b : ℕ) → not r ≡ false → l ≡ numeralOf s → l ≡ literal.Number v x b → AnswerIs s (variant.Number v x b)
   answer-number l v x b q p k = number h (is-spelling q) (sym p ∙ k)
 
--- ---- the answer, and what the C entry leaves, are determined
+-- ---- the answer is determined
 literalAnswer : NumberLiteral → Answer
 literalAnswer (literal.Number v x b) = variant.Number v x b
 literalAnswer literal.Overflow = variant.Lexical 2
@@ -136,8 +136,3 @@ answer-of {s} (number {value} {suffix} {base} h p e) = answer-read s (literal.Nu
 
 pub answer-unique : {s : List ℕ} {a b : Answer} → AnswerIs s a → AnswerIs s b → a ≡ b
 answer-unique p q = answer-of p ∙ sym (answer-of q)
-
-pub entry-unique : {s : List ℕ} {o v x b r o′ v′ x′ b′ r′ : ℕ} → Answered s o v x b r → Answered s o′ v′ x′ b′ r′ → (o ≡ o′) × (v ≡ v′) × (x ≡ x′) × (b ≡ b′) × (r ≡ r′)
-entry-unique p q =
-    let e = answer-unique (p .is) (q .is) in
-    (p .outcome-is ∙ ap outcomeOf e ∙ sym (q .outcome-is), p .value-is ∙ ap valueOf e ∙ sym (q .value-is), p .suffix-is ∙ ap suffixOf e ∙ sym (q .suffix-is), p .base-is ∙ ap baseOf e ∙ sym (q .base-is), p .reason-is ∙ ap reasonOf e ∙ sym (q .reason-is))

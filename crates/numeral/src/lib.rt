@@ -2,10 +2,6 @@
 mod outcome;
 
 pub use outcome::Answer;
-use outcome::outcome_of;
-use outcome::reason_of;
-use outcome::suffix_of;
-use outcome::value_of;
 use patterns::is_word;
 use patterns::starts_with;
 ghost use mathlib.Core.Path.{_≡_};
@@ -13,7 +9,7 @@ ghost use Prim.Native.Nat.{_+_, _*_, _≤_, _<_, min};
 ghost use lib.Dec.{ltb};
 ghost use lib.ListN.{length};
 ghost use Rattle.patterns.specs.Bytes.{in-set, word, run};
-ghost use Rattle.numeral.specs.Entry.{AnswerIs, Answered};
+ghost use Rattle.numeral.specs.Entry.{AnswerIs};
 ghost use Rattle.numeral.specs.Steps.{spelled};
 ghost use Rattle.numeral.specs.Numeral.{most, baseOf, digitOf, digitIn, lastOf, cutAt, cutOf, suffixKind, reading, restOf, numeralOf};
 
@@ -276,23 +272,4 @@ pub fn answer(spelling: &[u8]) -> Answer
         NumberLiteral::Overflow => Answer::Lexical { reason: 2 },
         NumberLiteral::InvalidFormat => Answer::Lexical { reason: 3 },
     }
-}
-
-// The numeral entry, for C.
-#[no_mangle]
-pub extern "C" fn cairo_m_numeral(
-    spelling: &[u8],
-    value: &mut u64,
-    suffix: &mut u8,
-    base: &mut u8,
-    reason: &mut u8,
-) -> u32
-    ensures { λ r. ⌜ Answered (now (spelling .entry)) r (now (value .exit)) (now (suffix .exit)) (now (base .exit)) (now (reason .exit)) ⌝ }
-{
-    let a = answer(spelling);
-    *value = value_of(a);
-    *suffix = suffix_of(a);
-    *base = outcome::base_of(a);
-    *reason = reason_of(a);
-    outcome_of(a)
 }

@@ -1,7 +1,7 @@
 use borrow.Author.Needs.{needs}
-use Rattle.listing.proofs.Results.{numbers}
-use Rattle.listing.proofs.cairo_m_list_refused.Statement.{statement}
-use Rattle.listing.proofs.cairo_m_list_refused.Tie as tie
+use Rattle.entries.proofs.ListAnswers.{numbers}
+use Rattle.entries.proofs.lists.cairo_m_list_refused.Statement.{statement}
+use Rattle.entries.proofs.lists.cairo_m_list_refused.Tie as tie
 
 pub cairo-m-list-refused-spec : {M : Type 1} → statement M
 cairo-m-list-refused-spec =

@@ -1,7 +1,7 @@
 use borrow.Author.Needs.{needs}
-use Rattle.lexer.proofs.Entries.{numbers}
-use Rattle.lexer.proofs.entry.cairo_m_lex.Statement.{statement}
-use Rattle.lexer.proofs.entry.cairo_m_lex.Tie as tie
+use Rattle.entries.proofs.LexAnswers.{numbers}
+use Rattle.entries.proofs.tokens.cairo_m_lex.Statement.{statement}
+use Rattle.entries.proofs.tokens.cairo_m_lex.Tie as tie
 
 pub cairo-m-lex-spec : {M : Type 1} → statement M
 cairo-m-lex-spec =
