@@ -1,9 +1,3 @@
-pub mod Decimal
-pub mod Writing
-pub mod Arrays
-pub mod Names
-pub mod Fields
+pub mod Known
 pub mod Results
 pub mod Determined
-pub mod Values
-pub mod Examples

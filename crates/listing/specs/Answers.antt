@@ -7,7 +7,7 @@ use lib.Dec.{leb}
 use lib.ListN.{length, replicate}
 use Rattle.patterns.specs.Bytes.{within}
 use Rattle.tables.specs.Tables.{Node, Diagnostic, filled}
-use Rattle.listing.specs.Json.{names, listing, refusal}
+use Rattle.json.specs.Json.{names, listing, refusal}
 use Rattle.listing.specs.declared.Listed.{Listed}
 use Rattle.listing.specs.declared.Listed.the-variants as Listed
 

@@ -1,3 +1,2 @@
-pub mod Json
 pub mod Answers
-pub mod Writes
+pub mod Finishes

@@ -1,8 +1,8 @@
 use borrow.Author.Needs.{needs}
 use native.Mathlib.Omega.{arith}
 use Rattle.listing.specs.Answers.{refused}
-use Rattle.listing.proofs.Writing.{both, same-text}
-use Rattle.listing.proofs.Fields.{refusal-is}
+use Rattle.json.proofs.Writing.{both, same-text}
+use Rattle.json.proofs.Fields.{refusal-is}
 use Rattle.listing.proofs.Results.{written}
 use Rattle.listing.proofs.list_refused.Statement.{statement}
 use Rattle.listing.proofs.list_refused.Tie as tie
