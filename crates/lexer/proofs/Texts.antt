@@ -108,8 +108,13 @@ no-keyword w f l t h n =
     (and-t (within 2 19 j) _ (within-of 2 19 j a b) (subst (λ (v : List ℕ). T (f (length v))) e h))))
     e)
 
-pub is-kind : (a e none : ℕ) (w : List ℕ) (k : ℕ) → a ≤ k → k ≤ e → same (fixedOf k) w ≡ true → KindIs a e none w k
-is-kind a e none w k h g s = kind h g (same-is (fixedOf k) w s)
+module _ {w : List ℕ} where
+  pub keyword-is : (k : ℕ) → T (within 2 19 k) → same (fixedOf k) w ≡ true → KindIs 2 19 IDENT w k
+  keyword-is k t e = let r = within-is 2 19 k t in kind (r .0) (r .1) (same-is (fixedOf k) w e)
+
+  -- a word of n bytes that is none of the keywords of n bytes
+  pub keyword-none : (n : ℕ) (l : List ℕ) → T (below 51 (listed (λ m. eqb m n) l)) → length w ≡ n → NoneOf w l → KindIs 2 19 IDENT w IDENT
+  keyword-none n l t h f = no-keyword w (λ m. eqb m n) l t (T-of (eq-eqb (length w) n h)) f
 
 -- ---- marks of two bytes: the second byte goes by the first
 pairs : ℕ → Bool
