@@ -16,13 +16,14 @@ use Rattle.tables.proofs.Suffix.{one-more}
 use Rattle.patterns.specs.Bytes.{in-set, white, run}
 use Rattle.patterns.proofs.Runs.{run-within}
 use Rattle.utf8.specs.Utf8.{Rest}
-use Rattle.utf8.proofs.Laws.{rest-none, rest-char, rest-more, rest-end, next-ascii}
+use Rattle.utf8.proofs.Laws.{begins-some, rest-none, rest-char, rest-more, rest-end, next-ascii}
 use Rattle.numeral.specs.Numeral.{numeralOf}
 use Rattle.numeral.specs.declared.NumberLiteral.{NumberLiteral}
 use Rattle.numeral.specs.declared.NumberLiteral.the-variants as NumberLiteral
+use Rattle.lexer.specs.Classes.{classOf, Table}
 use Rattle.lexer.specs.Lexes.{Item, skipped, token, error, itemOf, Step, matched, strange, tokens, errors, Lexes, done, step}
 use Rattle.lexer.specs.Answers.{long, encoding, lexed, too-long, not-utf8, lexes, LexedIs, zeros}
-use Rattle.lexer.specs.Scans.{Scanned, Stepped}
+use Rattle.lexer.specs.Scans.{Scanned, Reaches, Stepped}
 use Rattle.lexer.specs.declared.scan.Found.{Found}
 use Rattle.lexer.specs.declared.scan.Found.the-variants as Found
 use Rattle.lexer.specs.declared.lexing.Item as declared
@@ -30,60 +31,81 @@ use Rattle.lexer.specs.declared.lexing.Item.the-variants as Item
 use Rattle.lexer.specs.declared.lexing.Lexed.the-variants as Lexed
 use Rattle.lexer.proofs.Leads.{best-white}
 use Rattle.lexer.proofs.Determined.{step-some, step-one}
-use Rattle.lexer.proofs.Scans.{run-first, white-ascii}
+use Rattle.lexer.proofs.Scans.{run-first, white-ascii, class-white}
 
 -- ---- one step
-module _ {s : List ℕ} {f : Found} (i : Scanned s f) where
-  pub skip-step : {n : ℕ} → f ≡ Found.Skip n → Stepped s (Item.Skipped n)
-  skip-step e = go (subst (Scanned s) e i)
-    where
-      go : {n : ℕ} → Scanned s (Found.Skip n) → Stepped s (Item.Skipped n)
-      go (Scanned.skip b r) = Stepped.skipped (matched 0 b refl) r
+abbrev pub sizeOf : Found → ℕ
+sizeOf (Found.Skip n) = n
+sizeOf (Found.Token k n) = n
+sizeOf (Found.Number n) = n
+sizeOf (Found.Strange n) = n
+sizeOf Found.NotUtf8 = 0
 
-  pub token-step : {k n : ℕ} → f ≡ Found.Token k n → Stepped s (Item.Token n k)
-  token-step e = go (subst (Scanned s) e i)
-    where
-      plain : (k : ℕ) (a : NumberLiteral) → 2 ≤ k → token k 0 0 0 ≡ itemOf k a
-      plain zero a h = absurd (omega arith)
-      plain (suc zero) a h = absurd (omega arith)
-      plain (suc (suc k)) a h = refl
+size-within : {s : List ℕ} {f : Found} → Scanned s f → sizeOf f ≤ length s
+size-within (Scanned.skip b r) = b .within
+size-within (Scanned.token h b r) = b .within
+size-within (Scanned.number b r) = b .within
+size-within (Scanned.strange t b) = begins-some b .1
+size-within (Scanned.broken u) = zero-le
 
-      go : {k n : ℕ} → Scanned s (Found.Token k n) → Stepped s (Item.Token n k)
-      go {k} {n} (Scanned.token h b r) = Stepped.token (matched k b (plain k (numeralOf (take n s)) h)) r
+pub end-within : (text : List ℕ) (at : ℕ) {s : List ℕ} {f : Found} → at ≤ length text → s ≡ drop at text → Scanned s f → (g : Found) → f ≡ g → at + sizeOf g ≤ length text
+end-within text at h e i g q = omega (arith, size-within i, ap sizeOf q, ap length e, length-drop at text)
 
-  pub strange-step : {n : ℕ} → f ≡ Found.Strange n → Stepped s (Item.Error n 1)
-  strange-step e = go (subst (Scanned s) e i)
-    where
-      go : {n : ℕ} → Scanned s (Found.Strange n) → Stepped s (Item.Error n 1)
-      go (Scanned.strange {c} t b) = Stepped.error (strange c t b refl) (rest-char b)
+module _ {text s : List ℕ} {at : ℕ} (h : at ≤ length text) (e : s ≡ drop at text) where
+  reaches : {n : ℕ} {j : Item} → Step s n j → Rest s n → Reaches text at (at + n) j
+  reaches {n} st r =
+      let k = step-some st in
+      record { n = n; is = refl; past = omega (arith, k); inside = omega (arith, k, ap length e, length-drop at text); step = rw e at st; rest = rw e at r }
 
-  pub broken-step : f ≡ Found.NotUtf8 → Stepped s Item.NotUtf8
-  broken-step e = go (subst (Scanned s) e i)
-    where
-      go : Scanned s Found.NotUtf8 → Stepped s Item.NotUtf8
-      go (Scanned.broken u) = Stepped.broken u
-
-  module _ {n : ℕ} (e : f ≡ Found.Number n) where
-    pub number-within : n ≤ length s
-    number-within = go (subst (Scanned s) e i)
+  module _ {f : Found} (i : Scanned s f) where
+    pub skip-step : {n : ℕ} → f ≡ Found.Skip n → Stepped text at (Item.Skipped (at + n))
+    skip-step {n} q = go (subst (Scanned s) q i)
       where
-        go : Scanned s (Found.Number n) → n ≤ length s
-        go (Scanned.number b r) = b .within
+        go : Scanned s (Found.Skip n) → Stepped text at (Item.Skipped (at + n))
+        go (Scanned.skip b r) = Stepped.skipped (reaches (matched 0 b refl) r)
 
-    number-step : {a : NumberLiteral} (j : Item) → a ≡ numeralOf (take n s) → itemOf 1 a ≡ j → (Step s n j × Rest s n)
-    number-step j q h = go (subst (Scanned s) e i)
+    pub token-step : {k n : ℕ} → f ≡ Found.Token k n → Stepped text at (Item.Token (at + n) k 0 0 0)
+    token-step {k} {n} q = go (subst (Scanned s) q i)
       where
-        go : Scanned s (Found.Number n) → (Step s n j × Rest s n)
-        go (Scanned.number b r) = (matched 1 b (sym h ∙ ap (itemOf 1) q), r)
+        plain : (k : ℕ) (a : NumberLiteral) → 2 ≤ k → token k 0 0 0 ≡ itemOf k a
+        plain zero a h = absurd (omega arith)
+        plain (suc zero) a h = absurd (omega arith)
+        plain (suc (suc k)) a h = refl
 
-    pub literal-step : {a : NumberLiteral} {v x y : ℕ} → a ≡ numeralOf (take n s) → a ≡ NumberLiteral.Number v x y → Stepped s (Item.Literal n v x y)
-    literal-step {a} {v} {x} {y} q h = let r = number-step (token NUMBER x y v) q (ap (itemOf 1) h) in Stepped.literal (r .0) (r .1)
+        none : (c : Bool) → (c && false) ≡ false
+        none true = refl
+        none false = refl
 
-    pub overflow-step : {a : NumberLiteral} → a ≡ numeralOf (take n s) → a ≡ NumberLiteral.Overflow → Stepped s (Item.Error n 2)
-    overflow-step q h = let r = number-step (error 2) q (ap (itemOf 1) h) in Stepped.error (r .0) (r .1)
+        go : Scanned s (Found.Token k n) → Stepped text at (Item.Token (at + n) k 0 0 0)
+        go (Scanned.token h b r) = Stepped.token (reaches (matched k b (plain k (numeralOf (take n s)) h)) r) (none (eqb k NUMBER))
 
-    pub format-step : {a : NumberLiteral} → a ≡ numeralOf (take n s) → a ≡ NumberLiteral.InvalidFormat → Stepped s (Item.Error n 3)
-    format-step q h = let r = number-step (error 3) q (ap (itemOf 1) h) in Stepped.error (r .0) (r .1)
+    pub strange-step : {n : ℕ} → f ≡ Found.Strange n → Stepped text at (Item.Error (at + n) 1)
+    strange-step {n} q = go (subst (Scanned s) q i)
+      where
+        go : Scanned s (Found.Strange n) → Stepped text at (Item.Error (at + n) 1)
+        go (Scanned.strange {c} t b) = Stepped.error (reaches (strange c t b refl) (rest-char b))
+
+    pub broken-step : f ≡ Found.NotUtf8 → Stepped text at Item.NotUtf8
+    broken-step q = go (subst (Scanned s) q i)
+      where
+        go : Scanned s Found.NotUtf8 → Stepped text at Item.NotUtf8
+        go (Scanned.broken u) = Stepped.broken (rw e at u)
+
+    module _ {n : ℕ} (p : f ≡ Found.Number n) {a : NumberLiteral} (q : a ≡ numeralOf (take n s)) where
+      number-step : (j : Item) → itemOf 1 a ≡ j → Reaches text at (at + n) j
+      number-step j w = go (subst (Scanned s) p i)
+        where
+          go : Scanned s (Found.Number n) → Reaches text at (at + n) j
+          go (Scanned.number b r) = reaches (matched 1 b (sym w ∙ ap (itemOf 1) q)) r
+
+      pub literal-step : {v x y : ℕ} → a ≡ NumberLiteral.Number v x y → Stepped text at (Item.Token (at + n) NUMBER x y v)
+      literal-step w = Stepped.token (number-step _ (ap (itemOf 1) w)) refl
+
+      pub overflow-step : a ≡ NumberLiteral.Overflow → Stepped text at (Item.Error (at + n) 2)
+      overflow-step w = Stepped.error (number-step _ (ap (itemOf 1) w))
+
+      pub format-step : a ≡ NumberLiteral.InvalidFormat → Stepped text at (Item.Error (at + n) 3)
+      format-step w = Stepped.error (number-step _ (ap (itemOf 1) w))
 
 -- ---- white space, byte by byte: a way from the byte after one is a way from that byte, since the longest run is one step
 white-step : (s : List ℕ) → 1 ≤ length s → in-set white (getD s 0 0) ≡ true → Step s (run (in-set white) s) skipped
@@ -128,11 +150,19 @@ pub record Going (text a₀ b₀ a b : List ℕ) (at nt nu nd : ℕ) : Type 0 wh
 
 -- how far an item reaches
 abbrev pub Turned : List ℕ → ℕ → declared.Item → Type 0
-Turned text at (Item.Skipped n) = (1 ≤ n) × (at + n ≤ length text)
-Turned text at (Item.Token n k) = (1 ≤ n) × (at + n ≤ length text)
-Turned text at (Item.Literal n v x y) = (1 ≤ n) × (at + n ≤ length text)
-Turned text at (Item.Error n r) = (1 ≤ n) × (at + n ≤ length text)
+Turned text at (Item.Skipped e) = (at < e) × (e ≤ length text)
+Turned text at (Item.Token e k x y v) = (at < e) × (e ≤ length text)
+Turned text at (Item.Error e r) = (at < e) × (e ≤ length text)
 Turned text at Item.NotUtf8 = Unit {0}
+
+pub turned : {text : List ℕ} {at : ℕ} {j : declared.Item} → Stepped text at j → (i : declared.Item) → j ≡ i → Turned text at i
+turned {text} {at} w i q = subst (Turned text at) q (go w)
+  where
+    go : {j : declared.Item} → Stepped text at j → Turned text at j
+    go (Stepped.skipped r) = (r .past, r .inside)
+    go (Stepped.token r x) = (r .past, r .inside)
+    go (Stepped.error r) = (r .past, r .inside)
+    go (Stepped.broken u) = tt
 
 -- a token more, and an error more
 more-tokens : (a₀ : List ℕ) (ts : List Token) (t : Token) → stored 16 (laid 16 encodeToken a₀ ts) (length ts) (encodeToken t) ≡ laid 16 encodeToken a₀ (ts ++ (t ∷ []))
@@ -166,23 +196,25 @@ module _ {text a₀ b₀ : List ℕ} where
       }
 
   module _ {a b : List ℕ} {at nt nu nd : ℕ} (g : Going text a₀ b₀ a b at nt nu nd) where
-    pub token-length : length a ≡ length a₀
+    token-length : length a ≡ length a₀
     token-length = ap length (g .token-table) ∙ laid-length encodeToken 16 (lit< tt) token-size a₀ (g .ts)
 
-    pub error-length : length b ≡ length b₀
+    error-length : length b ≡ length b₀
     error-length = ap length (g .error-table) ∙ laid-length encodeDiagnostic 8 (lit< tt) diagnostic-size b₀ (g .ds)
 
-    -- a turn goes past some bytes, and not past the end
-    pub stepped-turn : {s : List ℕ} {i : declared.Item} → Stepped s i → s ≡ drop at text → Turned text at i
-    stepped-turn (Stepped.skipped st r) e = omega (arith, step-some st, ap length e, length-drop at text, g .inside)
-    stepped-turn (Stepped.literal st r) e = omega (arith, step-some st, ap length e, length-drop at text, g .inside)
-    stepped-turn (Stepped.token st r) e = omega (arith, step-some st, ap length e, length-drop at text, g .inside)
-    stepped-turn (Stepped.error st r) e = omega (arith, step-some st, ap length e, length-drop at text, g .inside)
-    stepped-turn (Stepped.broken u) e = tt
+    pub same-tokens : (l : List ℕ) → length l ≡ length a → length l ≡ length a₀
+    same-tokens l e = e ∙ token-length
 
-    lexes-on : {n : ℕ} {i : Item} {s : List ℕ} → Step s n i → s ≡ drop at text → (us : List Token) (gs : List Diagnostic) → Lexes (at + n) (drop (at + n) text) us gs
-        → Lexes at (drop at text) (tokens i at (at + n) us) (errors i at (at + n) gs)
-    lexes-on {n} {i} st e us gs l = step n i (rw e at st) (subst (λ (s : List ℕ). Lexes (at + n) s us gs) (sym (drop-drop n at text)) l)
+    pub same-errors : (l : List ℕ) → length l ≡ length b → length l ≡ length b₀
+    same-errors l e = e ∙ error-length
+
+    rest-on : {e : ℕ} {i : Item} → Reaches text at e i → Rest text e
+    rest-on r = rw (r .is) (rest-more (g .rest) (r .rest))
+
+    lexes-on : {e : ℕ} {i : Item} → Reaches text at e i → (us : List Token) (gs : List Diagnostic) → Lexes e (drop e text) us gs → Lexes at (drop at text) (tokens i at e us) (errors i at e gs)
+    lexes-on {e} {i} r us gs =
+        subst (λ (m : ℕ). Lexes m (drop m text) us gs → Lexes at (drop at text) (tokens i at m us) (errors i at m gs)) (sym (r .is))
+        (λ l. step (r .n) i (r .step) (subst (λ (s : List ℕ). Lexes (at + r .n) s us gs) (sym (drop-drop (r .n) at text)) l))
 
     -- nothing is put down on the way to the place m
     going-past : {m : ℕ} → at ≤ m → m ≤ length text → Rest text m → ((us : List Token) (gs : List Diagnostic) → Lexes m (drop m text) us gs → Lexes at (drop at text) us gs) → Going text a₀ b₀ a b m nt nu nd
@@ -204,76 +236,61 @@ module _ {text a₀ b₀ : List ℕ} where
           goes-on = λ us gs l. g .goes-on us gs (f us gs l);
         }
 
-    pub going-skipped : {s : List ℕ} {i : declared.Item} {n : ℕ} → Stepped s i → s ≡ drop at text → i ≡ Item.Skipped n → Going text a₀ b₀ a b (at + n) nt nu nd
-    going-skipped {s} {i} {n} w e q = go (subst (Stepped s) q w)
+    pub going-skipped : {i : declared.Item} {e : ℕ} → Stepped text at i → i ≡ Item.Skipped e → Going text a₀ b₀ a b e nt nu nd
+    going-skipped {e = e} w q = go (subst (Stepped text at) q w)
       where
-        go : Stepped s (Item.Skipped n) → Going text a₀ b₀ a b (at + n) nt nu nd
-        go (Stepped.skipped st r) = going-past (omega arith) (stepped-turn (Stepped.skipped st r) e .1) (rest-more (g .rest) (rw e at r)) (lexes-on st e)
+        go : Stepped text at (Item.Skipped e) → Going text a₀ b₀ a b e nt nu nd
+        go (Stepped.skipped r) = going-past (omega (arith, r .past)) (r .inside) (rest-on r) (lexes-on r)
 
-    pub going-white : at < length text → in-set white (getD text at 0) ≡ true → Going text a₀ b₀ a b (at + 1) nt nu nd
-    going-white h w =
+    pub going-white : {l : List ℕ} → Table classOf l → at < length text → getD text at 0 < 256 → getD l (getD text at 0) 0 ≡ 1 → Going text a₀ b₀ a b (at + 1) nt nu nd
+    going-white r h k c =
+        let w = class-white text at r k c in
         going-past (omega arith) (omega arith) (next-ascii (g .rest) h (white-ascii _ w))
         (λ us gs l. rw (drop-cons text at 0 h) (white-on w (subst (λ (k : ℕ). Lexes (at + 1) (drop k text) us gs) (add-one at) l)))
 
-    -- any token
-    going-more : {s a′ : List ℕ} {n k x y v mu : ℕ} → Step s n (token k x y v) → Rest s n → s ≡ drop at text → mu ≡ nu + cond (eqb k 1 && eqb x 3) 1 0
-        → a′ ≡ stored 16 a nt (encodeToken (record { kind = k; suffix = x; start = at; end = at + n; base = y; value = v })) → Going text a₀ b₀ a′ b (at + n) (nt + 1) mu nd
-    going-more {n = n} {k} {x} {y} {v} st r e u f =
-        let t : Token = record { kind = k; suffix = x; start = at; end = at + n; base = y; value = v } in
-        let h = step-some st in
-        record {
-          short = g .short;
-          inside = omega (arith, h, ap length e, length-drop at text, g .inside);
-          rest = rest-more (g .rest) (rw e at r);
-          few-tokens = omega (arith, h, g .few-tokens);
-          few-unknown = omega (arith, h, g .few-unknown, one-most (eqb k 1 && eqb x 3));
-          few-errors = omega (arith, g .few-errors);
-          ts = g .ts ++ (t ∷ []);
-          ds = g .ds;
-          token-count = omega (arith, g .token-count, length-append (g .ts) (t ∷ []));
-          unknown-count = omega (arith, u, g .unknown-count, one-more (g .ts) t);
-          error-count = g .error-count;
-          token-table = f ∙ ap₂ (λ (l : List ℕ) (j : ℕ). stored 16 l j (encodeToken t)) (g .token-table) (g .token-count) ∙ more-tokens a₀ (g .ts) t;
-          error-table = g .error-table;
-          goes-on = λ us gs l.
-              subst (λ (q : List Token). Lexes 0 text q (g .ds ++ gs)) (sym (append-assoc (g .ts) (t ∷ []) us)) (g .goes-on (t ∷ us) gs (lexes-on st e us gs l));
-        }
-
-    pub going-token : {s a′ : List ℕ} {i : declared.Item} {n k : ℕ} → Stepped s i → s ≡ drop at text → i ≡ Item.Token n k
-        → a′ ≡ stored 16 a nt (encodeToken (record { kind = k; suffix = 0; start = at; end = at + n; base = 0; value = 0 })) → Going text a₀ b₀ a′ b (at + n) (nt + 1) nu nd
-    going-token {s} {a′} {i} {n} {k} w e q f = go (subst (Stepped s) q w)
+    pub going-token : {a′ : List ℕ} {i : declared.Item} {e k x y v o : ℕ} → Stepped text at i → i ≡ Item.Token e k x y v → o ≡ cond (eqb x 3) 1 0
+        → a′ ≡ stored 16 a nt (encodeToken (record { kind = k; suffix = x; start = at; end = e; base = y; value = v })) → Going text a₀ b₀ a′ b e (nt + 1) (nu + o) nd
+    going-token {a′} {i} {e} {k} {x} {y} {v} {o} w q u f = go (subst (Stepped text at) q w)
       where
-        none : (c : Bool) → nu ≡ nu + cond (c && false) 1 0
-        none true = omega arith
-        none false = omega arith
+        t : Token
+        t = record { kind = k; suffix = x; start = at; end = e; base = y; value = v }
 
-        go : Stepped s (Item.Token n k) → Going text a₀ b₀ a′ b (at + n) (nt + 1) nu nd
-        go (Stepped.token st r) = going-more st r e (none (eqb k 1)) f
-
-    pub going-literal : {s a′ : List ℕ} {i : declared.Item} {n v x y o : ℕ} → Stepped s i → s ≡ drop at text → i ≡ Item.Literal n v x y → o ≡ cond (eqb x 3) 1 0
-        → a′ ≡ stored 16 a nt (encodeToken (record { kind = 1; suffix = x; start = at; end = at + n; base = y; value = v })) → Going text a₀ b₀ a′ b (at + n) (nt + 1) (nu + o) nd
-    going-literal {s} {a′} {i} {n} {v} {x} {y} {o} w e q u f = go (subst (Stepped s) q w)
-      where
-        go : Stepped s (Item.Literal n v x y) → Going text a₀ b₀ a′ b (at + n) (nt + 1) (nu + o) nd
-        go (Stepped.literal st r) = going-more st r e (ap (nu +_) u) f
-
-    pub going-error : {s b′ : List ℕ} {i : declared.Item} {n r : ℕ} → Stepped s i → s ≡ drop at text → i ≡ Item.Error n r
-        → b′ ≡ stored 8 b nd (encodeDiagnostic (record { start = at; end = at + n; reason = r })) → Going text a₀ b₀ a b′ (at + n) nt nu (nd + 1)
-    going-error {s} {b′} {i} {n} {r} w e q f = go (subst (Stepped s) q w)
-      where
-        d : Diagnostic
-        d = record { start = at; end = at + n; reason = r }
-
-        go : Stepped s (Item.Error n r) → Going text a₀ b₀ a b′ (at + n) nt nu (nd + 1)
-        go (Stepped.error st u) =
-            let h = stepped-turn (Stepped.error st u) e in
+        go : Stepped text at (Item.Token e k x y v) → Going text a₀ b₀ a′ b e (nt + 1) (nu + o) nd
+        go (Stepped.token r z) =
             record {
               short = g .short;
-              inside = h .1;
-              rest = rest-more (g .rest) (rw e at u);
-              few-tokens = omega (arith, g .few-tokens);
-              few-unknown = omega (arith, g .few-unknown);
-              few-errors = omega (arith, h .0, g .few-errors);
+              inside = r .inside;
+              rest = rest-on r;
+              few-tokens = omega (arith, r .past, g .few-tokens);
+              few-unknown = omega (arith, r .past, g .few-unknown, u, one-most (eqb x 3));
+              few-errors = omega (arith, r .past, g .few-errors);
+              ts = g .ts ++ (t ∷ []);
+              ds = g .ds;
+              token-count = omega (arith, g .token-count, length-append (g .ts) (t ∷ []));
+              unknown-count = omega (arith, u, g .unknown-count, one-more (g .ts) t, ap {B = ℕ} (λ (c : Bool). cond c 1 0) z);
+              error-count = g .error-count;
+              token-table = f ∙ ap₂ (λ (l : List ℕ) (j : ℕ). stored 16 l j (encodeToken t)) (g .token-table) (g .token-count) ∙ more-tokens a₀ (g .ts) t;
+              error-table = g .error-table;
+              goes-on = λ us gs l.
+                  subst (λ (q : List Token). Lexes 0 text q (g .ds ++ gs)) (sym (append-assoc (g .ts) (t ∷ []) us)) (g .goes-on (t ∷ us) gs (lexes-on r us gs l));
+            }
+
+    pub going-error : {b′ : List ℕ} {i : declared.Item} {e c : ℕ} → Stepped text at i → i ≡ Item.Error e c
+        → b′ ≡ stored 8 b nd (encodeDiagnostic (record { start = at; end = e; reason = c })) → Going text a₀ b₀ a b′ e nt nu (nd + 1)
+    going-error {b′} {i} {e} {c} w q f = go (subst (Stepped text at) q w)
+      where
+        d : Diagnostic
+        d = record { start = at; end = e; reason = c }
+
+        go : Stepped text at (Item.Error e c) → Going text a₀ b₀ a b′ e nt nu (nd + 1)
+        go (Stepped.error r) =
+            record {
+              short = g .short;
+              inside = r .inside;
+              rest = rest-on r;
+              few-tokens = omega (arith, r .past, g .few-tokens);
+              few-unknown = omega (arith, r .past, g .few-unknown);
+              few-errors = omega (arith, r .past, g .few-errors);
               ts = g .ts;
               ds = g .ds ++ (d ∷ []);
               token-count = g .token-count;
@@ -282,7 +299,7 @@ module _ {text a₀ b₀ : List ℕ} where
               token-table = g .token-table;
               error-table = f ∙ ap₂ (λ (l : List ℕ) (j : ℕ). stored 8 l j (encodeDiagnostic d)) (g .error-table) (g .error-count) ∙ more-errors b₀ (g .ds) d;
               goes-on = λ us gs l.
-                  subst (λ (q : List Diagnostic). Lexes 0 text (g .ts ++ us) q) (sym (append-assoc (g .ds) (d ∷ []) gs)) (g .goes-on us (d ∷ gs) (lexes-on st e us gs l));
+                  subst (λ (q : List Diagnostic). Lexes 0 text (g .ts ++ us) q) (sym (append-assoc (g .ds) (d ∷ []) gs)) (g .goes-on us (d ∷ gs) (lexes-on r us gs l));
             }
 
     -- the ends
@@ -298,15 +315,14 @@ module _ {text a₀ b₀ : List ℕ} where
             diagnostics = q ∙ ap₂ (kept 8) (g .error-count) (g .error-table) ∙ laid-kept encodeDiagnostic 8 (lit< tt) diagnostic-size b₀ (g .ds);
           }
 
-      pub going-broken : {s : List ℕ} {i : declared.Item} → Stepped s i → s ≡ drop at text → i ≡ Item.NotUtf8 → a′ ≡ cleared 0 a → b′ ≡ cleared 0 b
-          → LexedIs text (length a₀) (length b₀) a′ b′ Lexed.Encoding
-      going-broken {s} w e q p r = go (subst (Stepped s) q w)
+      pub going-broken : {i : declared.Item} → Stepped text at i → i ≡ Item.NotUtf8 → a′ ≡ cleared 0 a → b′ ≡ cleared 0 b → LexedIs text (length a₀) (length b₀) a′ b′ Lexed.Encoding
+      going-broken w q p r = go (subst (Stepped text at) q w)
         where
-          go : Stepped s Item.NotUtf8 → LexedIs text (length a₀) (length b₀) a′ b′ Lexed.Encoding
+          go : Stepped text at Item.NotUtf8 → LexedIs text (length a₀) (length b₀) a′ b′ Lexed.Encoding
           go (Stepped.broken u) =
               record {
                 result = encoding;
-                is = not-utf8 (g .short) (λ v. u (rw e (g .rest .there v)));
+                is = not-utf8 (g .short) (λ v. u (g .rest .there v));
                 answer = refl;
                 tokens = p ∙ cleared-all a ∙ ap zeros token-length;
                 diagnostics = r ∙ cleared-all b ∙ ap zeros error-length;

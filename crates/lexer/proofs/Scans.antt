@@ -173,10 +173,10 @@ module _ (t : List ℕ) (i : ℕ) {l : List ℕ} (r : Table classOf l) (h : getD
   pub class-white : getD l (getD t i 0) 0 ≡ 1 → in-set white (getD t i 0) ≡ true
   class-white e = white-is _ _ h (r .rule _ h) ∙ eq-eqb _ 1 e
 
-  pub begun-at : i < length t → (getD l (getD t i 0) 0 ≡ 1 → ⊥) → {s : List ℕ} → s ≡ drop i t → Begun s (getD l (getD t i 0) 0)
-  begun-at k n e =
+  pub begun-at : i < length t → (getD l (getD t i 0) 0 ≡ 1 → ⊥) → Begun (drop i t) (getD l (getD t i 0) 0)
+  begun-at k n =
       let b : getD (drop i t) 0 0 ≡ getD t i 0 = rw (getD-drop, add-zero) in
-      rw e (record { some = omega (arith, length-drop i t); small = rw b h; class-is = rw b (r .rule _ h); dark = n })
+      record { some = omega (arith, length-drop i t); small = rw b h; class-is = rw b (r .rule _ h); dark = n }
 
 abbrev ascii : ℕ → Bool
 ascii b = ltb b 0x80

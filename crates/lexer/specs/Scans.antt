@@ -1,9 +1,10 @@
 -- What the scanners answer. Assumes nothing.
 use mathlib.Core.Path.{_≡_}
-use mathlib.Core.Bool.{Bool, true, not}
+use mathlib.Core.Bool.{Bool, true, not, _&&_}
 use mathlib.Core.List.{List, [], _∷_}
 use Prim.Native.Nat.{ℕ, _+_, _≤_, _<_}
-use lib.ListN.{length, getD}
+use lib.Dec.{eqb}
+use lib.ListN.{length, drop, getD}
 use Rattle.patterns.specs.Bytes.{in-set, run}
 use Rattle.utf8.specs.Utf8.{Utf8, Begins, Rest}
 use Rattle.tables.specs.TokenKinds.{NUMBER}
@@ -54,10 +55,18 @@ pub data Scanned (s : List ℕ) : Found → Type 0 where
   strange : {c n : ℕ} → Stuck s → Begins s c n → Scanned s (Found.Strange n)
   broken : (Utf8 s → ⊥) → Scanned s Found.NotUtf8
 
--- the same with the numeral's answer
-pub data Stepped (s : List ℕ) : Item → Type 0 where
-  skipped : {n : ℕ} → Step s n Lexes.skipped → Rest s n → Stepped s (Item.Skipped n)
-  token : {n k : ℕ} → Step s n (Lexes.token k 0 0 0) → Rest s n → Stepped s (Item.Token n k)
-  literal : {n v x b : ℕ} → Step s n (Lexes.token NUMBER x b v) → Rest s n → Stepped s (Item.Literal n v x b)
-  error : {n r : ℕ} → Step s n (Lexes.error r) → Rest s n → Stepped s (Item.Error n r)
-  broken : (Utf8 s → ⊥) → Stepped s Item.NotUtf8
+-- the item i stands from the place `at` to e
+pub record Reaches (text : List ℕ) (at e : ℕ) (i : Lexes.Item) : Type 0 where
+  pub n : ℕ
+  pub is : e ≡ at + n
+  pub past : at < e
+  pub inside : e ≤ length text
+  pub step : Step (drop at text) n i
+  pub rest : Rest (drop at text) n
+
+-- the same at a place, with the numeral's answer; only numerals have a suffix
+pub data Stepped (text : List ℕ) (at : ℕ) : Item → Type 0 where
+  skipped : {e : ℕ} → Reaches text at e Lexes.skipped → Stepped text at (Item.Skipped e)
+  token : {e k x b v : ℕ} → Reaches text at e (Lexes.token k x b v) → (eqb k NUMBER && eqb x 3) ≡ eqb x 3 → Stepped text at (Item.Token e k x b v)
+  error : {e r : ℕ} → Reaches text at e (Lexes.error r) → Stepped text at (Item.Error e r)
+  broken : (Utf8 (drop at text) → ⊥) → Stepped text at Item.NotUtf8

@@ -18,7 +18,8 @@ ghost use mathlib.Core.Path.{_≡_};
 ghost use mathlib.Core.Bool.{cond};
 ghost use Prim.Native.Nat.{_≤_};
 ghost use lib.Dec.{eqb};
-ghost use lib.ListN.{length};
+ghost use lib.ListN.{length, drop};
+ghost use Rattle.tables.specs.Tables.{cleared};
 ghost use Rattle.lexer.specs.Classes.{classOf, nextOf, pairOf, Table, KeyTable};
 ghost use Rattle.lexer.specs.Scans.{Begun, Stepped};
 ghost use Rattle.lexer.specs.Answers.{LexedIs};
@@ -31,21 +32,18 @@ const FORMAT: u8 = 3;
 
 const OTHER_SUFFIX: u8 = 3;
 
-// What stands at the start of a text, and its size.
+// What stands at a place, and where it ends.
 pub enum Item {
     Skipped(usize),
     Token {
-        size: usize,
+        end: usize,
         kind: u8,
-    },
-    Literal {
-        size: usize,
-        value: u64,
         suffix: u8,
         base: u8,
+        value: u64,
     },
     Error {
-        size: usize,
+        end: usize,
         reason: u8,
     },
     NotUtf8,
@@ -61,50 +59,62 @@ pub enum Lexed {
     },
 }
 
+// By the class of the byte at the place, which is no white space.
 fn step(
-    t: &[u8],
+    text: &[u8],
+    at: usize,
     c: u8,
     classes: &[u8; 256],
     nexts: &[u8; 256],
     pairs: &[u8; 256],
     keys: &[u8; 256],
 ) -> Item
-    requires { ⌜ Begun (now t) c ⌝ }
+    requires { ⌜ at ≤ length (now text) ⌝ }
+    requires { ⌜ Begun (drop at (now text)) c ⌝ }
     requires { ⌜ Table classOf (now classes) ⌝ }
     requires { ⌜ Table nextOf (now nexts) ⌝ }
     requires { ⌜ Table pairOf (now pairs) ⌝ }
     requires { ⌜ KeyTable (now keys) ⌝ }
-    ensures { λ r. ⌜ Stepped (now (t .entry)) r ⌝ }
+    ensures { λ r. ⌜ Stepped (now (text .entry)) at r ⌝ }
 {
+    let t = &text[at..];
     let f = scan(t, c, classes, nexts, pairs, keys);
     match f {
-        Found::Skip(n) => Item::Skipped(n),
-        Found::Token { kind, size } => Item::Token { size, kind },
+        Found::Skip(n) => Item::Skipped(at + n),
+        Found::Token { kind, size } => Item::Token {
+            end: at + size,
+            kind,
+            suffix: 0,
+            base: 0,
+            value: 0,
+        },
         Found::Number(n) => {
+            let end = at + n;
             let a = parse_number_literal(&t[..n]);
             match a {
                 NumberLiteral::Number {
                     value,
                     suffix,
                     base,
-                } => Item::Literal {
-                    size: n,
-                    value,
+                } => Item::Token {
+                    end,
+                    kind: LITERAL_NUMBER,
                     suffix,
                     base,
+                    value,
                 },
                 NumberLiteral::Overflow => Item::Error {
-                    size: n,
+                    end,
                     reason: OVERFLOW,
                 },
                 NumberLiteral::InvalidFormat => Item::Error {
-                    size: n,
+                    end,
                     reason: FORMAT,
                 },
             }
         }
         Found::Strange(n) => Item::Error {
-            size: n,
+            end: at + n,
             reason: CHARACTER,
         },
         Found::NotUtf8 => Item::NotUtf8,
@@ -118,19 +128,32 @@ fn other(suffix: u8) -> usize
     if suffix == OTHER_SUFFIX { 1 } else { 0 }
 }
 
+// A text that is refused leaves nothing in the tables.
+fn clear(tokens: &mut [u8], diagnostics: &mut [u8])
+    ensures { λ r. ⌜ now (tokens .exit) ≡ cleared 0 (now (tokens .entry)) ⌝ }
+    ensures { λ r. ⌜ now (diagnostics .exit) ≡ cleared 0 (now (diagnostics .entry)) ⌝ }
+{
+    clear_from(tokens, 0);
+    clear_from(diagnostics, 0);
+}
+
 // One pass over the bytes. What fits is stored, all is counted, and every unused entry is zero.
-pub fn lex(text: &[u8], tokens: &mut [u8], diagnostics: &mut [u8]) -> Lexed
+fn pass(
+    text: &[u8],
+    tokens: &mut [u8],
+    diagnostics: &mut [u8],
+    classes: &[u8; 256],
+    nexts: &[u8; 256],
+    pairs: &[u8; 256],
+    keys: &[u8; 256],
+) -> Lexed
+    requires { ⌜ length (now text) ≤ 65535 ⌝ }
+    requires { ⌜ Table classOf (now classes) ⌝ }
+    requires { ⌜ Table nextOf (now nexts) ⌝ }
+    requires { ⌜ Table pairOf (now pairs) ⌝ }
+    requires { ⌜ KeyTable (now keys) ⌝ }
     ensures { λ r. ⌜ LexedIs (now (text .entry)) (length (now (tokens .entry))) (length (now (diagnostics .entry))) (now (tokens .exit)) (now (diagnostics .exit)) r ⌝ }
 {
-    if text.len() > 65535 {
-        clear_from(tokens, 0);
-        clear_from(diagnostics, 0);
-        return Lexed::Long;
-    }
-    let classes = classes();
-    let nexts = nexts();
-    let pairs = pairs();
-    let keys = keys();
     let mut at = 0;
     let mut token_count: usize = 0;
     let mut unknown: usize = 0;
@@ -140,28 +163,22 @@ pub fn lex(text: &[u8], tokens: &mut [u8], diagnostics: &mut [u8]) -> Lexed
         if c == WHITE {
             at += 1;
         } else {
-            let item = step(&text[at..], c, &classes, &nexts, &pairs, &keys);
+            let item = step(text, at, c, classes, nexts, pairs, keys);
             match item {
-                Item::Skipped(size) => {
-                    at += size;
-                }
-                Item::Token { size, kind } => {
-                    let end = at + size;
-                    put_token(tokens, token_count, kind, 0, at as u16, end as u16, 0, 0);
-                    token_count += 1;
+                Item::Skipped(end) => {
                     at = end;
                 }
-                Item::Literal {
-                    size,
-                    value,
+                Item::Token {
+                    end,
+                    kind,
                     suffix,
                     base,
+                    value,
                 } => {
-                    let end = at + size;
                     put_token(
                         tokens,
                         token_count,
-                        LITERAL_NUMBER,
+                        kind,
                         suffix,
                         at as u16,
                         end as u16,
@@ -172,15 +189,13 @@ pub fn lex(text: &[u8], tokens: &mut [u8], diagnostics: &mut [u8]) -> Lexed
                     unknown += other(suffix);
                     at = end;
                 }
-                Item::Error { size, reason } => {
-                    let end = at + size;
+                Item::Error { end, reason } => {
                     put_diagnostic(diagnostics, error_count, at as u16, end as u16, reason);
                     error_count += 1;
                     at = end;
                 }
                 Item::NotUtf8 => {
-                    clear_from(tokens, 0);
-                    clear_from(diagnostics, 0);
+                    clear(tokens, diagnostics);
                     return Lexed::Encoding;
                 }
             }
@@ -193,4 +208,18 @@ pub fn lex(text: &[u8], tokens: &mut [u8], diagnostics: &mut [u8]) -> Lexed
         unknown: unknown,
         diagnostics: error_count,
     }
+}
+
+pub fn lex(text: &[u8], tokens: &mut [u8], diagnostics: &mut [u8]) -> Lexed
+    ensures { λ r. ⌜ LexedIs (now (text .entry)) (length (now (tokens .entry))) (length (now (diagnostics .entry))) (now (tokens .exit)) (now (diagnostics .exit)) r ⌝ }
+{
+    if text.len() > 65535 {
+        clear(tokens, diagnostics);
+        return Lexed::Long;
+    }
+    let classes = classes();
+    let nexts = nexts();
+    let pairs = pairs();
+    let keys = keys();
+    pass(text, tokens, diagnostics, &classes, &nexts, &pairs, &keys)
 }
