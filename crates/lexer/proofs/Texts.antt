@@ -3,12 +3,12 @@ use mathlib.Core.Path.{_≡_, refl, sym, ap, subst, _∙_}
 use mathlib.Core.Bool.{Bool, true, false, _&&_, _||_, not, Bool·beq, false≢true}
 use mathlib.Core.Logic.{⊎-elim}
 use mathlib.Core.List.{List, [], _∷_}
-use Prim.Native.Nat.{ℕ, _≤_, _<_}
+use Prim.Native.Nat.{ℕ, _+_, _*_, _-_, _≤_, _<_}
 use Prim.Native.String.{String}
 use native.Mathlib.Omega.{arith}
 use native.Mathlib.Decide.{decLt, ℕ-discrete}
 use lib.Dec.{T, leb, ltb, eqb, le→leb, leb→le, eqb→eq, T-not}
-use lib.ListN.{length, getD, List·getD-eq-default}
+use lib.ListN.{length, take, drop, getD, List·getD-eq-default}
 use lib.Seq.{take-all}
 use borrow.Author.Tests.{eqb-true, eq-eqb, ne-eqb, lt-ltb}
 use Rattle.patterns.specs.Bytes.{bytes, within, same, starts, Set, in-set, white, letter, digit, word, run}
@@ -74,47 +74,18 @@ fixed-is k h =
     (or-cases (is-keyword k) (is-mark k)
     (of-T _ (modus (leb 1 (length (fixedOf k))) _ (kind-law (λ k. implies (leb 1 (length (fixedOf k))) (is-keyword k || is-mark k)) tt k (fixed-kind k h)) (le→leb 1 _ h))))
 
--- ---- which keyword a word is
-unfoldable pub member : ℕ → List ℕ → Bool
-member j [] = false
-member j (k ∷ l) = eqb j k || member j l
-
--- the word has the text of none of these kinds
-abbrev pub NoneOf : List ℕ → List ℕ → Type 0
-NoneOf w [] = Unit {0}
-NoneOf w (k ∷ l) = (same (fixedOf k) w ≡ false) × NoneOf w l
-
-none-is : (w : List ℕ) (l : List ℕ) (j : ℕ) → NoneOf w l → member j l ≡ true → w ≡ fixedOf j → ⊥
-unfolding member
-none-is w [] j n m e = false≢true m
-none-is w (k ∷ l) j n m e =
-    ⊎-elim
-    (λ q. false≢true (sym (n .0) ∙ subst (λ (v : List ℕ). same (fixedOf k) v ≡ true) (sym (e ∙ ap fixedOf (eqb-true j k q))) (same-self (fixedOf k))))
-    (λ q. none-is w l j (n .1) q e)
-    (or-cases (eqb j k) (member j l) m)
-
--- the keywords whose length passes a test are among those of the list
-unfoldable pub listed : (ℕ → Bool) → List ℕ → ℕ → Bool
-unfolding fixedOf texts member
-listed f l j = implies (within 2 19 j && f (length (fixedOf j))) (member j l)
-
-pub no-keyword : (w : List ℕ) (f : ℕ → Bool) (l : List ℕ) → T (below 51 (listed f l)) → T (f (length w)) → NoneOf w l → KindIs 2 19 IDENT w IDENT
-unfolding listed
-no-keyword w f l t h n =
-    no-kind refl
-    (λ j a b e. none-is w l j n
-    (of-T _
-    (modus (within 2 19 j && f (length (fixedOf j))) (member j l) (kind-law (listed f l) t j (omega arith))
-    (and-t (within 2 19 j) _ (within-of 2 19 j a b) (subst (λ (v : List ℕ). T (f (length v))) e h))))
-    e)
+-- ---- a keyword has two to eight bytes
+keyword-size : (j : ℕ) → 2 ≤ j → j ≤ 19 → (2 ≤ length (fixedOf j)) × (length (fixedOf j) ≤ 8)
+unfolding fixedOf texts
+keyword-size j a b =
+    within-is 2 8 _ (modus (within 2 19 j) _ (kind-law (λ j. implies (within 2 19 j) (within 2 8 (length (fixedOf j)))) tt j (omega arith)) (within-of 2 19 j a b))
 
 module _ {w : List ℕ} where
-  pub keyword-is : (k : ℕ) → T (within 2 19 k) → same (fixedOf k) w ≡ true → KindIs 2 19 IDENT w k
-  keyword-is k t e = let r = within-is 2 19 k t in kind (r .0) (r .1) (same-is (fixedOf k) w e)
+  pub too-short : length w < 2 → KindIs 2 19 IDENT w IDENT
+  too-short h = no-kind refl (λ j a b e. omega (arith, keyword-size j a b, ap length e))
 
-  -- a word of n bytes that is none of the keywords of n bytes
-  pub keyword-none : (n : ℕ) (l : List ℕ) → T (below 51 (listed (λ m. eqb m n) l)) → length w ≡ n → NoneOf w l → KindIs 2 19 IDENT w IDENT
-  keyword-none n l t h f = no-keyword w (λ m. eqb m n) l t (T-of (eq-eqb (length w) n h)) f
+  pub too-long : 8 < length w → KindIs 2 19 IDENT w IDENT
+  too-long h = no-kind refl (λ j a b e. omega (arith, keyword-size j a b, ap length e))
 
 -- ---- marks of two bytes: the second byte goes by the first
 pairs : ℕ → Bool
@@ -162,14 +133,57 @@ lone-next b h e = eqb→eq _ 0 (modus (within LPAREN SEMI (classOf b)) _ (byte-l
 
 -- ---- keys
 abbrev pub keyed : List ℕ → ℕ → Bool
-keyed l j = implies (within 2 19 j) (leb 1 (getD l (keyOf (fixedOf j)) 0))
+keyed l j =
+    implies (within 2 19 j)
+    (eqb (getD l (keyOf (fixedOf j)) 0) j && (leb (getD l (j * 9 + 256 + 8) 0) 8 && same (fixedOf j) (take (getD l (j * 9 + 256 + 8) 0) (drop (j * 9 + 256) l))))
 
-pub key-table : (l : List ℕ) → T (below 51 (keyed l)) → KeyTable l
-key-table l t =
-    record { some = λ j a b. leb→le 1 _ (modus (within 2 19 j) (leb 1 (getD l (keyOf (fixedOf j)) 0)) (kind-law (keyed l) t j (omega arith)) (within-of 2 19 j a b)) }
+pub key-table : (l : List ℕ) → length l ≡ 436 → T (below 256 (λ b. eqb (getD l b 0) 0 || within 2 19 (getD l b 0))) → T (below 51 (keyed l)) → KeyTable l
+key-table l n u t =
+    record {
+      size = n;
+      kind = λ b h z. within-is 2 19 _ (⊎-elim (λ q. absurd (z (eqb-true _ 0 q))) T-of (or-cases (eqb (getD l b 0) 0) _ (of-T _ (byte-law (λ b. eqb (getD l b 0) 0 || within 2 19 (getD l b 0)) u b h))));
+      some = λ j a b. eqb→eq _ j (and-l (eqb (getD l (keyOf (fixedOf j)) 0) j) _ (law j a b));
+      short = λ j a b. leb→le _ 8 (and-l (leb (getD l (j * 9 + 256 + 8) 0) 8) _ (and-r (eqb (getD l (keyOf (fixedOf j)) 0) j) _ (law j a b)));
+      text = λ j a b. same-is (fixedOf j) _ (of-T _ (and-r (leb (getD l (j * 9 + 256 + 8) 0) 8) _ (and-r (eqb (getD l (keyOf (fixedOf j)) 0) j) _ (law j a b))));
+    }
+  where
+    law : (j : ℕ) → 2 ≤ j → j ≤ 19 → T (eqb (getD l (keyOf (fixedOf j)) 0) j && (leb (getD l (j * 9 + 256 + 8) 0) 8 && same (fixedOf j) (take (getD l (j * 9 + 256 + 8) 0) (drop (j * 9 + 256) l))))
+    law j a b = modus (within 2 19 j) _ (kind-law (keyed l) t j (omega arith)) (within-of 2 19 j a b)
 
-pub no-key : {w l : List ℕ} {k : ℕ} → KeyTable l → k ≡ keyOf w → getD l k 0 ≡ 0 → KindIs 2 19 IDENT w IDENT
-no-key {l = l} t q z = no-kind refl (λ j a b e. omega (arith, t .some j a b, sym z ∙ ap (λ (i : ℕ). getD l i 0) (q ∙ ap keyOf e)))
+-- the bytes that the table has for the kind at a key are the keyword's
+spelt : (l : List ℕ) → KeyTable l → (b : ℕ) → b < 256 → (getD l b 0 ≡ 0 → ⊥)
+    → take ((getD l b 0 * 9 + 256 + getD l (getD l b 0 * 9 + 256 + 8) 0) - (getD l b 0 * 9 + 256)) (drop (getD l b 0 * 9 + 256) l) ≡ fixedOf (getD l b 0)
+spelt l t b h z =
+    let k = getD l b 0 in
+    let g = t .kind b h z in
+    let e : (k * 9 + 256 + getD l (k * 9 + 256 + 8) 0) - (k * 9 + 256) ≡ getD l (k * 9 + 256 + 8) 0 = omega arith in
+    ap (λ (m : ℕ). take m (drop (k * 9 + 256) l)) e ∙ t .text k (g .0) (g .1)
+
+-- how far a look into the table goes from the key b
+pub record KeyWithin (l : List ℕ) (b : ℕ) : Type 0 where
+  pub kind : getD l b 0 ≤ 19
+  pub short : getD l (getD l b 0 * 9 + 256 + 8) 0 ≤ 8
+  pub size : length l ≡ 436
+
+pub key-within : {l : List ℕ} {b : ℕ} → KeyTable l → b < 256 → (getD l b 0 ≡ 0 → ⊥) → KeyWithin l b
+key-within {l} {b} t h z = let g = t .kind b h z in record { kind = g .1; short = t .short (getD l b 0) (g .0) (g .1); size = t .size }
+
+module _ {w l : List ℕ} (t : KeyTable l) (b : ℕ) (q : b ≡ keyOf w) where
+  only : (j : ℕ) → 2 ≤ j → j ≤ 19 → w ≡ fixedOf j → getD l b 0 ≡ j
+  only j a c e = ap (λ (i : ℕ). getD l i 0) (q ∙ ap keyOf e) ∙ t .some j a c
+
+  pub no-key : getD l b 0 ≡ 0 → KindIs 2 19 IDENT w IDENT
+  no-key z = no-kind refl (λ j a c e. omega (arith, only j a c e))
+
+  module _ (h : b < 256) (z : getD l b 0 ≡ 0 → ⊥) {r : Bool}
+      (s : r ≡ same (take ((getD l b 0 * 9 + 256 + getD l (getD l b 0 * 9 + 256 + 8) 0) - (getD l b 0 * 9 + 256)) (drop (getD l b 0 * 9 + 256) l)) w) where
+    pub a-keyword : r ≡ true → KindIs 2 19 IDENT w (getD l b 0)
+    a-keyword x = let g = t .kind b h z in kind (g .0) (g .1) (same-is _ w (sym (s ∙ ap (λ (v : List ℕ). same v w) (spelt l t b h z)) ∙ x))
+
+    pub no-keyword : r ≡ false → KindIs 2 19 IDENT w IDENT
+    no-keyword x =
+        no-kind refl
+        (λ j c d e. false≢true (sym x ∙ s ∙ ap (λ (v : List ℕ). same v w) (spelt l t b h z ∙ ap fixedOf (only j c d e) ∙ sym e) ∙ same-self w))
 
 -- ---- classes
 pub table-rule : (f : ℕ → ℕ) (l : List ℕ) → T (every (λ k x. eqb x (f k)) 0 l) → length l ≡ 256 → Table f l
@@ -231,7 +245,3 @@ mark-is b h p q =
       same-is _ _ (of-T _ (and-l (same (fixedOf (classOf b)) (b ∷ [])) _ u)),
       (λ e. eqb→eq b 47 (modus (eqb (classOf b) 36) _ (and-r (same (fixedOf (classOf b)) (b ∷ [])) _ u) (T-of (eq-eqb _ 36 e)))),
     )
-
--- what a callee told, and a test of it
-pub told : {x r b : Bool} → r ≡ x → r ≡ b → x ≡ b
-told e f = sym e ∙ f

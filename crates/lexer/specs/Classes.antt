@@ -5,7 +5,7 @@ use mathlib.Core.List.{List, [], _∷_}
 use Prim.Native.Nat.{ℕ, suc, _+_, _*_, _%_, _≤_, _<_}
 use Prim.Native.String.{String}
 use lib.Dec.{ltb, eqb}
-use lib.ListN.{length, drop, getD}
+use lib.ListN.{length, take, drop, getD}
 use Rattle.patterns.specs.Bytes.{bytes, within, same, in-set, white, letter, digit}
 use Rattle.lexer.specs.Kinds.{texts, fixedOf}
 
@@ -51,8 +51,12 @@ pub record Table (f : ℕ → ℕ) (l : List ℕ) : Type 0 where
 
 -- the key of a word
 abbrev pub keyOf : List ℕ → ℕ
-keyOf w = (getD w 0 0 * 5 + getD w 1 0 * 2 + length w * 7) % 256
+keyOf w = (getD w 0 0 * 9 + getD w 1 0 * 2 + length w) % 256
 
--- the table has something at the key of each keyword
+-- the table has the kind of each keyword at its key, and no other kind; and the keyword's length and bytes at its kind
 pub record KeyTable (l : List ℕ) : Type 0 where
-  pub some : (j : ℕ) → 2 ≤ j → j ≤ 19 → 0 < getD l (keyOf (fixedOf j)) 0
+  pub size : length l ≡ 436
+  pub kind : (b : ℕ) → b < 256 → (getD l b 0 ≡ 0 → ⊥) → (2 ≤ getD l b 0) × (getD l b 0 ≤ 19)
+  pub some : (j : ℕ) → 2 ≤ j → j ≤ 19 → getD l (keyOf (fixedOf j)) 0 ≡ j
+  pub short : (j : ℕ) → 2 ≤ j → j ≤ 19 → getD l (j * 9 + 256 + 8) 0 ≤ 8
+  pub text : (j : ℕ) → 2 ≤ j → j ≤ 19 → take (getD l (j * 9 + 256 + 8) 0) (drop (j * 9 + 256) l) ≡ fixedOf j

@@ -67,7 +67,7 @@ fn step(
     classes: &[u8; 256],
     nexts: &[u8; 256],
     pairs: &[u8; 256],
-    keys: &[u8; 256],
+    keys: &[u8; 436],
 ) -> Item
     requires { ⌜ at ≤ length (now text) ⌝ }
     requires { ⌜ Begun (drop at (now text)) c ⌝ }
@@ -145,7 +145,7 @@ fn pass(
     classes: &[u8; 256],
     nexts: &[u8; 256],
     pairs: &[u8; 256],
-    keys: &[u8; 256],
+    keys: &[u8; 436],
 ) -> Lexed
     requires { ⌜ length (now text) ≤ 65535 ⌝ }
     requires { ⌜ Table classOf (now classes) ⌝ }

@@ -116,110 +116,13 @@ fn line_run(t: &[u8]) -> usize
 // The key of a word of n bytes that begins with these two.
 fn key(a: u8, b: u8, n: usize) -> usize
     requires { ⌜ n ≤ 8 ⌝ }
-    ensures { λ r. ⌜ (r ≡ (a * 5 + b * 2 + n * 7) % 256) × (r < 256) ⌝ }
+    ensures { λ r. ⌜ (r ≡ (a * 9 + b * 2 + n) % 256) × (r < 256) ⌝ }
 {
-    ((a as usize) * 5 + (b as usize) * 2 + n * 7) % 256
+    ((a as usize) * 9 + (b as usize) * 2 + n) % 256
 }
 
-// The kind of a word of so many bytes: a keyword's, or a name's. A function for each number, as the prover takes long over one for all.
-fn of_two(w: &[u8]) -> u8
-    requires { ⌜ length (now w) ≡ 2 ⌝ }
-    ensures { λ r. ⌜ KindIs 2 19 IDENT (now (w .entry)) r ⌝ }
-{
-    if is_word(w, b"as") {
-        return token_type::AS;
-    }
-    if is_word(w, b"fn") {
-        return token_type::FUNCTION;
-    }
-    if is_word(w, b"if") {
-        return token_type::IF;
-    }
-    if is_word(w, b"in") {
-        return token_type::IN;
-    }
-    token_type::IDENTIFIER
-}
-
-fn of_three(w: &[u8]) -> u8
-    requires { ⌜ length (now w) ≡ 3 ⌝ }
-    ensures { λ r. ⌜ KindIs 2 19 IDENT (now (w .entry)) r ⌝ }
-{
-    if is_word(w, b"let") {
-        return token_type::LET;
-    }
-    if is_word(w, b"new") {
-        return token_type::NEW;
-    }
-    if is_word(w, b"for") {
-        return token_type::FOR;
-    }
-    if is_word(w, b"use") {
-        return token_type::USE;
-    }
-    token_type::IDENTIFIER
-}
-
-fn of_four(w: &[u8]) -> u8
-    requires { ⌜ length (now w) ≡ 4 ⌝ }
-    ensures { λ r. ⌜ KindIs 2 19 IDENT (now (w .entry)) r ⌝ }
-{
-    if is_word(w, b"else") {
-        return token_type::ELSE;
-    }
-    if is_word(w, b"true") {
-        return token_type::TRUE;
-    }
-    if is_word(w, b"loop") {
-        return token_type::LOOP;
-    }
-    token_type::IDENTIFIER
-}
-
-fn of_five(w: &[u8]) -> u8
-    requires { ⌜ length (now w) ≡ 5 ⌝ }
-    ensures { λ r. ⌜ KindIs 2 19 IDENT (now (w .entry)) r ⌝ }
-{
-    if is_word(w, b"const") {
-        return token_type::CONST;
-    }
-    if is_word(w, b"false") {
-        return token_type::FALSE;
-    }
-    if is_word(w, b"while") {
-        return token_type::WHILE;
-    }
-    if is_word(w, b"break") {
-        return token_type::BREAK;
-    }
-    token_type::IDENTIFIER
-}
-
-fn of_six(w: &[u8]) -> u8
-    requires { ⌜ length (now w) ≡ 6 ⌝ }
-    ensures { λ r. ⌜ KindIs 2 19 IDENT (now (w .entry)) r ⌝ }
-{
-    if is_word(w, b"return") {
-        return token_type::RETURN;
-    }
-    if is_word(w, b"struct") {
-        return token_type::STRUCT;
-    }
-    token_type::IDENTIFIER
-}
-
-fn of_eight(w: &[u8]) -> u8
-    requires { ⌜ length (now w) ≡ 8 ⌝ }
-    ensures { λ r. ⌜ KindIs 2 19 IDENT (now (w .entry)) r ⌝ }
-{
-    if is_word(w, b"continue") {
-        return token_type::CONTINUE;
-    }
-    token_type::IDENTIFIER
-}
-
-// The kind of a word. Most names have no keyword's key, and are compared with none.
-fn keyword(w: &[u8], keys: &[u8; 256]) -> u8
+// The kind of a word: a keyword's, or a name's. It is compared with the one keyword that has its key; most names have no keyword's.
+fn keyword(w: &[u8], keys: &[u8]) -> u8
     requires { ⌜ KeyTable (now keys) ⌝ }
     ensures { λ r. ⌜ KindIs 2 19 IDENT (now (w .entry)) r ⌝ }
 {
@@ -230,26 +133,14 @@ fn keyword(w: &[u8], keys: &[u8; 256]) -> u8
     if n > 8 {
         return token_type::IDENTIFIER;
     }
-    if keys[key(w[0], w[1], n)] == 0 {
+    let k = keys[key(w[0], w[1], n)];
+    if k == 0 {
         return token_type::IDENTIFIER;
     }
-    if n == 2 {
-        return of_two(w);
-    }
-    if n == 3 {
-        return of_three(w);
-    }
-    if n == 4 {
-        return of_four(w);
-    }
-    if n == 5 {
-        return of_five(w);
-    }
-    if n == 6 {
-        return of_six(w);
-    }
-    if n == 8 {
-        return of_eight(w);
+    let at = (k as usize) * 9 + 256;
+    let size = keys[at + 8] as usize;
+    if is_word(w, &keys[at..at + size]) {
+        return k;
     }
     token_type::IDENTIFIER
 }
@@ -296,7 +187,7 @@ pub(crate) fn scan(
     classes: &[u8; 256],
     nexts: &[u8; 256],
     pairs: &[u8; 256],
-    keys: &[u8; 256],
+    keys: &[u8; 436],
 ) -> Found
     requires { ⌜ Begun (now t) c ⌝ }
     requires { ⌜ Table classOf (now classes) ⌝ }

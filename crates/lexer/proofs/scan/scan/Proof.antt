@@ -19,7 +19,7 @@ scan-spec =
     (λ c. found-numeral (c .before .before .before .before .pre .0) (search) (search))
     (λ c. simp length-take (omega (arith, run-within (in-set word) (c .before .before .before .before .before .args .t .now))))
     (λ c κs. search needs)
-    (λ c. found-name (c .before .before .before .before .before .before .pre .0) (omega arith) (search) (search))
+    (λ c. found-name (c .before .before .before .before .before .before .before .pre .0) (omega arith) (search) (search))
     (λ c κs. let g = c .before .before .before .pre .0 in (g .some, found-nothing g (omega arith) (omega arith)))
     (λ c. search needs)
     (λ c κs. search needs)
