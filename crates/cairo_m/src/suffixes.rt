@@ -1,11 +1,9 @@
 // From the tokens on: the tree, the place where reading stopped, the literals with an unknown suffix, the room for the nodes.
 use crate::Reading;
+use diagnostic::put_diagnostic;
 use parser::Parsed;
 use parser::parse;
 use tables::clear_from;
-use tables::diagnostic::put_diagnostic;
-use tables::node;
-use tables::token;
 use tables::token_type::LITERAL_NUMBER;
 ghost use mathlib.Core.Path.{_≡_};
 ghost use Prim.Native.Nat.{_≤_, _<_, _/_};

@@ -3,7 +3,6 @@ mod kind;
 mod rows;
 
 use rows::print;
-use tables::diagnostic;
 
 // Reads one byte more than the longest text, so that a longer one is seen to be too long.
 fn main() {

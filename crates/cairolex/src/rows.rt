@@ -1,7 +1,5 @@
 // A row of JSON for each entry of a table, with commas between them.
 use crate::kind::print_kind;
-use tables::diagnostic;
-use tables::token;
 
 pub fn print(words: &[u8]) {
     io::write_all(1, words);

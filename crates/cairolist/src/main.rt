@@ -3,8 +3,6 @@ use entries::read_numbers;
 use listing::Listed;
 use listing::list;
 use listing::list_refused;
-use tables::diagnostic;
-use tables::node;
 ghost use Prim.Native.Nat.{_≤_};
 
 // Reads one byte more than the longest text, so that a longer one is seen to be too long.

@@ -12,9 +12,8 @@ ghost use Rattle.cursor.specs.Entries.{input, MAX16, MAX64};
 ghost use Rattle.cursor.specs.Read.{Puts, Grown, Step, Free, reached, begun, ending, ending-with};
 ghost use Rattle.cursor.specs.Steps.{Wanted, Halted, rewound, Advanced, Emitted, Closed, Agreed, Restarted, Left, with-part, fresh-at, signed-at, shallow, joining, up};
 use grammar::node_kind;
+use node::put_node;
 use patterns::is_word;
-use tables::node::put_node;
-use tables::token;
 use tables::token_type::IDENTIFIER;
 use tables::token_type::LITERAL_NUMBER;
 

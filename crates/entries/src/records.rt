@@ -1,5 +1,4 @@
 // The list of diagnostics as a lent slice of records.
-use tables::diagnostic;
 ghost use mathlib.Core.Path.{_≡_};
 ghost use Prim.Native.Nat.{_<_};
 ghost use lib.ListN.{length, set};

@@ -14,7 +14,6 @@ use cursor::READING;
 use cursor::deeper;
 use cursor::type_name;
 use grammar::node_kind;
-use tables::token;
 use tables::token_type;
 use tables::token_type::AS;
 use tables::token_type::COLON;

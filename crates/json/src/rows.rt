@@ -1,8 +1,6 @@
 // The rows of nodes and of diagnostics.
 use super::writer::put;
 use super::writer::put_number;
-use tables::diagnostic;
-use tables::node;
 ghost use mathlib.Core.Path.{_≡_};
 ghost use mathlib.Core.List.{_∷_};
 ghost use Rattle.tables.specs.Tables.{nodeAt, nodesOf, diagnosticAt, diagnosticsOf};

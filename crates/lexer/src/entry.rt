@@ -2,7 +2,7 @@
 use super::lexing::Lexed;
 use super::lexing::lex;
 use tables::clear_from;
-use tables::token::room;
+use token::room;
 ghost use lib.ListN.{length};
 ghost use Rattle.lexer.specs.Answers.{AnswerIs};
 

@@ -2,8 +2,6 @@
 use case_io::field;
 use case_io::stray;
 use case_io::words;
-use tables::diagnostic;
-use tables::token;
 
 // The tables are full of another byte before the call.
 pub fn answer(text: &[u8], token_bytes: usize, diagnostic_bytes: usize) {

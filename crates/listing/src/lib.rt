@@ -4,7 +4,6 @@ use json::node_rows;
 use json::put;
 use json::put_number;
 use tables::clear_from;
-use tables::node;
 ghost use mathlib.Core.Path.{_≡_};
 ghost use lib.ListN.{length};
 ghost use Rattle.tables.specs.Tables.{nodesOf, diagnosticsOf};

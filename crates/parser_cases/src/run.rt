@@ -1,8 +1,8 @@
 // A long run of tokens, which are kinds alone: a reader that took the stack for each of them would not end.
 use super::tree::parsed;
 use case_io::number;
-use tables::token::put_token;
-use tables::token::room;
+use token::put_token;
+use token::room;
 
 // Where the line and the table go on.
 pub struct Laid {

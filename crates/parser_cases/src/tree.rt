@@ -4,7 +4,6 @@ use case_io::stray;
 use case_io::words;
 use parser::Parsed;
 use parser::parse;
-use tables::node;
 
 // The table is full of another byte before the call.
 pub fn answer(text: &[u8], tokens: &[u8], node_bytes: usize) {

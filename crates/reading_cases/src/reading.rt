@@ -6,9 +6,6 @@ use case_io::words;
 use listing::Listed;
 use listing::list;
 use listing::list_refused;
-use tables::diagnostic;
-use tables::node;
-use tables::token;
 ghost use Prim.Native.Nat.{_≤_};
 
 // The tables are full of another byte before the call.

@@ -2,14 +2,14 @@
 use mathlib.Core.Path.{_≡_, refl, sym, ap, ap₂, subst, _∙_}
 use mathlib.Core.List.{List, [], _∷_, _++_, append-assoc, append-nil}
 use Prim.Native.Nat.{ℕ, zero, suc, _+_, _-_, _*_, _/_, _%_, _^_, _≤_, _<_, min, zero-le}
-use native.Mathlib.Nat.{zero-mul, suc-mul, add-comm, add-zero, add-suc, suc-add, sub-zero, div-zero, mod-add-div, div-div-eq-div-mul, mul-le-mul-right, le-div-iff-mul-le, le-refl}
+use native.Mathlib.Nat.{zero-mul, mul-zero, suc-mul, add-comm, add-zero, add-suc, suc-add, sub-zero, div-zero, mod-add-div, div-div-eq-div-mul, mul-le-mul-right, le-div-iff-mul-le, le-refl}
 use native.Mathlib.Numerals.{add-one, towards-suc}
 use native.Mathlib.Omega.{arith}
 use native.Mathlib.Decide.{decLt}
 use lib.ListN.{length, getD, take, drop, set, replicate, length-append, length-take, length-drop, length-replicate, length-set, List·getD-eq-default}
 use lib.Seq.{take-nil, take-all, take-append-le, take-append-add, drop-append-add, take-at, drop-at, drop-drop, sets, sets-eq, take-suc-set, getD-take, getD-drop, ext-getD}
-use borrow.Author.Tests.{lt-ltb, le-ltb}
-use Rattle.tables.specs.Tables.{Token, Node, Diagnostic, le16, le64, encodeToken, encodeNode, encodeDiagnostic, joined, filled, table, laid, stored, cleared, kept, number, entryAt, decodeToken, decodeNode, decodeDiagnostic, tokenAt, nodeAt, diagnosticAt, tokenTable, nodeTable, diagnosticTable, tabulate, tokensOf}
+use borrow.Author.Tests.{lt-ltb, le-ltb, le-leb, lt-leb}
+use Rattle.tables.specs.Tables.{Token, Node, Diagnostic, le16, le64, encodeToken, encodeNode, encodeDiagnostic, joined, filled, table, laid, stored, cleared, kept, number, entryAt, decodeToken, decodeNode, decodeDiagnostic, fieldAt, tokenAt, nodeAt, diagnosticAt, tokenTable, nodeTable, diagnosticTable, tabulate, tokensOf}
 
 abbrev zeros : ℕ → List ℕ
 zeros n = replicate n 0
@@ -40,13 +40,18 @@ module _ {t₀ : List ℕ} {at : ℕ} where
 
 -- ---- keeping the first k entries
 module _ (w k : ℕ) (t : List ℕ) {u : List ℕ} where
-  pub kept-some : {a : ℕ} → k < length t / w → a ≡ k * w + 0 → u ≡ cleared a t → u ≡ kept w k t
+  pub kept-some : k < length t / w → u ≡ cleared (k * w) t → u ≡ kept w k t
   unfolding kept
-  kept-some h e f = f ∙ ap (λ (n : ℕ). cleared n t) (e ∙ add-zero (k * w) ∙ ap (λ (n : ℕ). n * w) (omega arith))
+  kept-some h f = f ∙ ap (λ (n : ℕ). cleared (n * w) t) (omega arith)
 
   pub kept-all : length t / w ≤ k → u ≡ cleared (length t / w * w) t → u ≡ kept w k t
   unfolding kept
   kept-all h f = f ∙ ap (λ (n : ℕ). cleared (n * w) t) (omega arith)
+
+  -- entries of no bytes
+  pub kept-none : w ≡ 0 → u ≡ cleared 0 t → u ≡ kept w k t
+  unfolding kept
+  kept-none h f = f ∙ ap (λ (n : ℕ). cleared n t) (sym (ap (λ (n : ℕ). min k (length t / w) * n) h ∙ mul-zero (min k (length t / w))))
 
 -- ---- an entry is one word or two
 sets-append : (l : List ℕ) (i : ℕ) (u v : List ℕ) → sets (sets l i u) (i + length u) v ≡ sets l i (u ++ v)
@@ -54,7 +59,7 @@ sets-append l i [] v = ap (λ (k : ℕ). sets l k v) (add-zero i)
 sets-append l i (a ∷ u) v =
     ap (λ (k : ℕ). sets (sets (set l i a) (suc i) u) k v) (add-suc i (length u) ∙ sym (suc-add i (length u))) ∙ sets-append (set l i a) (suc i) u v
 
-eight : {a b c d e f g h a′ b′ c′ d′ e′ f′ g′ h′ : ℕ} → a ≡ a′ → b ≡ b′ → c ≡ c′ → d ≡ d′ → e ≡ e′ → f ≡ f′ → g ≡ g′ → h ≡ h′
+pub eight : {a b c d e f g h a′ b′ c′ d′ e′ f′ g′ h′ : ℕ} → a ≡ a′ → b ≡ b′ → c ≡ c′ → d ≡ d′ → e ≡ e′ → f ≡ f′ → g ≡ g′ → h ≡ h′
     → _≡_ {A = List ℕ} (a ∷ b ∷ c ∷ d ∷ e ∷ f ∷ g ∷ h ∷ []) (a′ ∷ b′ ∷ c′ ∷ d′ ∷ e′ ∷ f′ ∷ g′ ∷ h′ ∷ [])
 eight p q r s t u v w = cc
 
@@ -62,41 +67,16 @@ pub stored-none : (w : ℕ) (t : List ℕ) (i : ℕ) (b : List ℕ) → length t
 unfolding stored
 stored-none w t i b h = sym (rw (le-ltb i (length t / w) h))
 
-module _ (t : List ℕ) (i : ℕ) where
-  -- an entry of two words, whose first has the bytes b
-  stored-two : {t′ t″ b : List ℕ} (w v : ℕ) → i < length t / 16 → le64 w ≡ b → t′ ≡ sets t (i * 16) (le64 w) → t″ ≡ sets t′ (i * 16 + 8) (le64 v)
-      → t″ ≡ stored 16 t i (b ++ le64 v)
+module _ (t : List ℕ) (i : ℕ) {t′ : List ℕ} where
+  pub stored-some : (w : ℕ) (b : List ℕ) → i < length t / w → t′ ≡ sets t (i * w) b → t′ ≡ stored w t i b
+  unfolding stored
+  stored-some w b h e = e ∙ sym (rw (lt-ltb i (length t / w) h))
+
+  pub stored-two : {t″ : List ℕ} (v w : ℕ) → i < length t / 16 → t′ ≡ sets t (i * 16) (le64 v) → t″ ≡ sets t′ (i * 16 + 8) (le64 w)
+      → t″ ≡ stored 16 t i (le64 v ++ le64 w)
   unfolding stored le64
-  stored-two w v h first e f =
-      f
-      ∙ ap (λ (l : List ℕ). sets l (i * 16 + 8) (le64 v)) e
-      ∙ sets-append t (i * 16) (le64 w) (le64 v)
-      ∙ ap (λ (b : List ℕ). sets t (i * 16) (b ++ le64 v)) first
-      ∙ sym (rw (lt-ltb i (length t / 16) h))
-
-  pub stored-token : (k : Token) {t′ t″ : List ℕ} → i < length t / 16 → k .kind < 256 → k .suffix < 256 → k .start < 65536 → k .end < 65536 → k .base < 256
-      → t′ ≡ sets t (i * 16) (le64 (k .kind + k .suffix * 0x100 + k .start * 0x10000 + k .end * 0x100000000 + k .base * 0x1000000000000)) → t″ ≡ sets t′ (i * 16 + 8) (le64 (k .value))
-      → t″ ≡ stored 16 t i (encodeToken k)
-  unfolding encodeToken le16 le64
-  stored-token k h a b c d e =
-      stored-two (k .kind + k .suffix * 0x100 + k .start * 0x10000 + k .end * 0x100000000 + k .base * 0x1000000000000) (k .value) h
-      (eight (omega arith) (omega arith) (omega arith) (omega arith) (omega arith) (omega arith) (omega arith) (omega arith))
-
-  pub stored-node : (k : Node) {t′ t″ : List ℕ} → i < length t / 16 → k .kind < 256 → k .base < 256 → k .start < 65536 → k .end < 65536 → k .children < 65536
-      → t′ ≡ sets t (i * 16) (le64 (k .kind + k .base * 0x100 + k .start * 0x10000 + k .end * 0x100000000 + k .children * 0x1000000000000)) → t″ ≡ sets t′ (i * 16 + 8) (le64 (k .value))
-      → t″ ≡ stored 16 t i (encodeNode k)
-  unfolding encodeNode le16 le64
-  stored-node k h a b c d e =
-      stored-two (k .kind + k .base * 0x100 + k .start * 0x10000 + k .end * 0x100000000 + k .children * 0x1000000000000) (k .value) h
-      (eight (omega arith) (omega arith) (omega arith) (omega arith) (omega arith) (omega arith) (omega arith) (omega arith))
-
-  pub stored-diagnostic : (d : Diagnostic) {t′ : List ℕ} → i < length t / 8 → d .start < 65536 → d .end < 65536 → d .reason < 256
-      → t′ ≡ sets t (i * 8) (le64 (d .start + d .end * 0x10000 + d .reason * 0x100000000)) → t′ ≡ stored 8 t i (encodeDiagnostic d)
-  unfolding stored encodeDiagnostic le16 le64
-  stored-diagnostic d h a b c e =
-      let all : le64 (d .start + d .end * 0x10000 + d .reason * 0x100000000) ≡ encodeDiagnostic d =
-      eight (omega arith) (omega arith) (omega arith) (omega arith) (omega arith) (omega arith) (omega arith) (omega arith) in
-      e ∙ ap (λ (b : List ℕ). sets t (i * 8) b) all ∙ sym (rw (lt-ltb i (length t / 8) h))
+  stored-two v w h e f =
+      f ∙ ap (λ (l : List ℕ). sets l (i * 16 + 8) (le64 w)) e ∙ sets-append t (i * 16) (le64 v) (le64 w) ∙ sym (rw (lt-ltb i (length t / 16) h))
 
 -- ---- a table with its first entries laid over what it had
 take-zeros : (k n : ℕ) → k ≤ n → take k (zeros n) ≡ zeros k
@@ -273,12 +253,18 @@ module _ (w i : ℕ) (t : List ℕ) where
       (rw (lt-ltb i (length t / w) h) (sym (getD-take w (drop (i * w) t) a 0 (omega arith) ∙ getD-drop (i * w) t a 0)))
       (ap (λ (k : ℕ). number t k n) (sym (add-suc (i * w) a)) ∙ number-entry (suc a) n h (omega arith))
 
-  pub number-in : (a n : ℕ) {k r : ℕ} → i < length t / w → a + n ≤ w → k ≡ i * w + a → r ≡ number t k n → r ≡ number (entryAt w t i) a n
-  number-in a n h fits e f = f ∙ ap (λ (k : ℕ). number t k n) e ∙ number-entry a n h fits
-
   pub number-none : (a n : ℕ) → length t / w ≤ i → 0 ≡ number (entryAt w t i) a n
   unfolding entryAt
   number-none a n h = rw (le-ltb i (length t / w) h) (sym (number-padded [] 0 a n zero-le))
+
+  pub field-in : (a n : ℕ) {k r : ℕ} → i < length t / w → a + n ≤ w → k ≡ i * w + a → r ≡ number t k n → r ≡ fieldAt w t i a n
+  field-in a n h fits e f = rw (le-leb (a + n) w fits) (f ∙ ap (λ (k : ℕ). number t k n) e ∙ number-entry a n h fits)
+
+  pub field-none : (a n : ℕ) → a + n ≤ w → length t / w ≤ i → 0 ≡ fieldAt w t i a n
+  field-none a n fits h = rw (le-leb (a + n) w fits) (number-none a n h)
+
+  pub field-out : (a n : ℕ) → w < a + n → 0 ≡ fieldAt w t i a n
+  field-out a n h = rw (lt-leb (a + n) w h)
 
 -- ---- what was laid down is read back
 module _ {A : Type 0} (f : A → List ℕ) (w : ℕ) (some-size : 0 < w) (each : (a : A) → length (f a) ≡ w) where

@@ -2,7 +2,7 @@
 use mathlib.Core.Bool.{cond}
 use mathlib.Core.List.{List, [], _∷_, _++_}
 use Prim.Native.Nat.{ℕ, zero, suc, _+_, _-_, _*_, _/_, _%_, _^_, min}
-use lib.Dec.{ltb}
+use lib.Dec.{ltb, leb}
 use lib.ListN.{length, getD, take, drop, replicate}
 use lib.Seq.{sets}
 
@@ -108,6 +108,10 @@ number b a (suc n) = getD b a 0 + 256 * number b (suc a) n
 -- the bytes of entry i of a table; none where the table has no entry i
 unfoldable pub entryAt : ℕ → List ℕ → ℕ → List ℕ
 entryAt size t i = cond (ltb i (length t / size)) (take size (drop (i * size) t)) []
+
+-- the little-endian number of n bytes at place a of entry i; 0 where the table has no entry i or the entry no such place
+abbrev pub fieldAt : ℕ → List ℕ → ℕ → ℕ → ℕ → ℕ
+fieldAt size t i a n = cond (leb (a + n) size) (number (entryAt size t i) a n) 0
 
 -- the token that an entry's bytes say
 abbrev pub decodeToken : List ℕ → Token

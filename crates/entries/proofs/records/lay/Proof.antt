@@ -41,15 +41,15 @@ use denote.Triple.Table.{entered, cited}
 use denote.Triple.Walked.{Stays, stay-slice, stay-none-slice, walkOf, goes-slice, goes-none-slice, Walks, walked, walk-meets}
 use denote.Exit.{yes}
 use Rattle.tables.specs.Tables.{diagnosticAt, tabulate}
-use Rattle.tables.proofs.diagnostic.start.Symbol as start-def
-use Rattle.tables.proofs.diagnostic.start.Symbol.{name as #start}
-use Rattle.tables.proofs.diagnostic.start.Met as start-thm
-use Rattle.tables.proofs.diagnostic.end.Symbol as end-def
-use Rattle.tables.proofs.diagnostic.end.Symbol.{name as #end}
-use Rattle.tables.proofs.diagnostic.end.Met as end-thm
-use Rattle.tables.proofs.diagnostic.reason.Symbol as reason-def
-use Rattle.tables.proofs.diagnostic.reason.Symbol.{name as #reason}
-use Rattle.tables.proofs.diagnostic.reason.Met as reason-thm
+use Rattle.diagnostic.proofs.start.Symbol as start-def
+use Rattle.diagnostic.proofs.start.Symbol.{name as #start}
+use Rattle.diagnostic.proofs.start.Met as start-thm
+use Rattle.diagnostic.proofs.end.Symbol as end-def
+use Rattle.diagnostic.proofs.end.Symbol.{name as #end}
+use Rattle.diagnostic.proofs.end.Met as end-thm
+use Rattle.diagnostic.proofs.reason.Symbol as reason-def
+use Rattle.diagnostic.proofs.reason.Symbol.{name as #reason}
+use Rattle.diagnostic.proofs.reason.Met as reason-thm
 use Rattle.entries.specs.declared.records.Diagnostic.{Diagnostic}
 use Rattle.entries.specs.Numbers.{recordAt}
 use Rattle.entries.proofs.Fields.{Reading, reads}
@@ -249,8 +249,8 @@ lay-spec 𝓤 H 𝓜 𝓖 𝓡 =
     entered 𝓤 H (tripleOf 𝓤 H (𝓖 .A) f.signature (f.spec 𝓤 H (𝓖 .A) (𝓜 .mem) (𝓡 .run)))
     (tables 𝓤 H 𝓜 𝓡 code.env .C) (tables 𝓤 H 𝓜 𝓡 code.env .Λ) #lay code.function (code.unfolded 𝓤 H 𝓜 𝓡)
     (lay-meets 𝓤 H (𝓖 .A) (givenOf 𝓤 H 𝓜 𝓖) (𝓜 .mem) (𝓡 .run) (tablesOf 𝓤 H 𝓜 (tables 𝓤 H 𝓜 𝓡 code.env)) record {
-      starts = cited 𝓤 H (Reading 𝓤 H (𝓖 .A) w16 start-of) 𝓜 𝓡 code.env #start start-def.routine code.calls-tables·diagnostic·start (start-thm.met 𝓤 H 𝓜 𝓖 𝓡);
-      ends-at = cited 𝓤 H (Reading 𝓤 H (𝓖 .A) w16 end-of) 𝓜 𝓡 code.env #end end-def.routine code.calls-tables·diagnostic·end (end-thm.met 𝓤 H 𝓜 𝓖 𝓡);
-      reasons = cited 𝓤 H (Reading 𝓤 H (𝓖 .A) w8 reason-of) 𝓜 𝓡 code.env #reason reason-def.routine code.calls-tables·diagnostic·reason (reason-thm.met 𝓤 H 𝓜 𝓖 𝓡);
+      starts = cited 𝓤 H (Reading 𝓤 H (𝓖 .A) w16 start-of) 𝓜 𝓡 code.env #start start-def.routine code.calls-diagnostic·start (start-thm.met 𝓤 H 𝓜 𝓖 𝓡);
+      ends-at = cited 𝓤 H (Reading 𝓤 H (𝓖 .A) w16 end-of) 𝓜 𝓡 code.env #end end-def.routine code.calls-diagnostic·end (end-thm.met 𝓤 H 𝓜 𝓖 𝓡);
+      reasons = cited 𝓤 H (Reading 𝓤 H (𝓖 .A) w8 reason-of) 𝓜 𝓡 code.env #reason reason-def.routine code.calls-diagnostic·reason (reason-thm.met 𝓤 H 𝓜 𝓖 𝓡);
       stores = cited 𝓤 H (Meeting 𝓤 H (𝓖 .A) storing.ended (storing.clauses 𝓤 H (𝓖 .A) (𝓜 .mem) (𝓡 .run))) 𝓜 𝓡 code.env #store storing-def.routine code.calls-entries·records·store (storing-thm.met 𝓤 H 𝓜 𝓖 𝓡);
     })
