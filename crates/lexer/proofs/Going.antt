@@ -64,7 +64,7 @@ module _ {text s : List ℕ} {at : ℕ} (h : at ≤ length text) (e : s ≡ drop
         go : Scanned s (Found.Skip n) → Stepped text at (Item.Skipped (at + n))
         go (Scanned.skip b r) = Stepped.skipped (reaches (matched 0 b refl) r)
 
-    pub token-step : {k n : ℕ} → f ≡ Found.Token k n → Stepped text at (Item.Token (at + n) k 0 0 0)
+    pub token-step : {k n : ℕ} → f ≡ Found.Token k n → Stepped text at (Item.Token (at + n) k)
     token-step {k} {n} q = go (subst (Scanned s) q i)
       where
         plain : (k : ℕ) (a : NumberLiteral) → 2 ≤ k → token k 0 0 0 ≡ itemOf k a
@@ -72,12 +72,8 @@ module _ {text s : List ℕ} {at : ℕ} (h : at ≤ length text) (e : s ≡ drop
         plain (suc zero) a h = absurd (omega arith)
         plain (suc (suc k)) a h = refl
 
-        none : (c : Bool) → (c && false) ≡ false
-        none true = refl
-        none false = refl
-
-        go : Scanned s (Found.Token k n) → Stepped text at (Item.Token (at + n) k 0 0 0)
-        go (Scanned.token h b r) = Stepped.token (reaches (matched k b (plain k (numeralOf (take n s)) h)) r) (none (eqb k NUMBER))
+        go : Scanned s (Found.Token k n) → Stepped text at (Item.Token (at + n) k)
+        go (Scanned.token h b r) = Stepped.token (reaches (matched k b (plain k (numeralOf (take n s)) h)) r)
 
     pub strange-step : {n : ℕ} → f ≡ Found.Strange n → Stepped text at (Item.Error (at + n) 1)
     strange-step {n} q = go (subst (Scanned s) q i)
@@ -98,8 +94,8 @@ module _ {text s : List ℕ} {at : ℕ} (h : at ≤ length text) (e : s ≡ drop
           go : Scanned s (Found.Number n) → Reaches text at (at + n) j
           go (Scanned.number b r) = reaches (matched 1 b (sym w ∙ ap (itemOf 1) q)) r
 
-      pub literal-step : {v x y : ℕ} → a ≡ NumberLiteral.Number v x y → Stepped text at (Item.Token (at + n) NUMBER x y v)
-      literal-step w = Stepped.token (number-step _ (ap (itemOf 1) w)) refl
+      pub literal-step : {v x y : ℕ} → a ≡ NumberLiteral.Number v x y → Stepped text at (Item.Literal (at + n) v x y)
+      literal-step w = Stepped.literal (number-step _ (ap (itemOf 1) w))
 
       pub overflow-step : a ≡ NumberLiteral.Overflow → Stepped text at (Item.Error (at + n) 2)
       overflow-step w = Stepped.error (number-step _ (ap (itemOf 1) w))
@@ -151,7 +147,8 @@ pub record Going (text a₀ b₀ a b : List ℕ) (at nt nu nd : ℕ) : Type 0 wh
 -- how far an item reaches
 abbrev pub Turned : List ℕ → ℕ → declared.Item → Type 0
 Turned text at (Item.Skipped e) = (at < e) × (e ≤ length text)
-Turned text at (Item.Token e k x y v) = (at < e) × (e ≤ length text)
+Turned text at (Item.Token e k) = (at < e) × (e ≤ length text)
+Turned text at (Item.Literal e v x y) = (at < e) × (e ≤ length text)
 Turned text at (Item.Error e r) = (at < e) × (e ≤ length text)
 Turned text at Item.NotUtf8 = Unit {0}
 
@@ -160,7 +157,8 @@ turned {text} {at} w i q = subst (Turned text at) q (go w)
   where
     go : {j : declared.Item} → Stepped text at j → Turned text at j
     go (Stepped.skipped r) = (r .past, r .inside)
-    go (Stepped.token r x) = (r .past, r .inside)
+    go (Stepped.token r) = (r .past, r .inside)
+    go (Stepped.literal r) = (r .past, r .inside)
     go (Stepped.error r) = (r .past, r .inside)
     go (Stepped.broken u) = tt
 
@@ -248,32 +246,46 @@ module _ {text a₀ b₀ : List ℕ} where
         going-past (omega arith) (omega arith) (next-ascii (g .rest) h (white-ascii _ w))
         (λ us gs l. rw (drop-cons text at 0 h) (white-on w (subst (λ (k : ℕ). Lexes (at + 1) (drop k text) us gs) (add-one at) l)))
 
-    pub going-token : {a′ : List ℕ} {i : declared.Item} {e k x y v o : ℕ} → Stepped text at i → i ≡ Item.Token e k x y v → o ≡ cond (eqb x 3) 1 0
-        → a′ ≡ stored 16 a nt (encodeToken (record { kind = k; suffix = x; start = at; end = e; base = y; value = v })) → Going text a₀ b₀ a′ b e (nt + 1) (nu + o) nd
-    going-token {a′} {i} {e} {k} {x} {y} {v} {o} w q u f = go (subst (Stepped text at) q w)
-      where
-        t : Token
-        t = record { kind = k; suffix = x; start = at; end = e; base = y; value = v }
+    -- any token
+    going-more : {a′ : List ℕ} {e k x y v mu : ℕ} → Reaches text at e (token k x y v) → mu ≡ nu + cond (eqb k 1 && eqb x 3) 1 0
+        → a′ ≡ stored 16 a nt (encodeToken (record { kind = k; suffix = x; start = at; end = e; base = y; value = v })) → Going text a₀ b₀ a′ b e (nt + 1) mu nd
+    going-more {e = e} {k} {x} {y} {v} r u f =
+        let t : Token = record { kind = k; suffix = x; start = at; end = e; base = y; value = v } in
+        record {
+          short = g .short;
+          inside = r .inside;
+          rest = rest-on r;
+          few-tokens = omega (arith, r .past, g .few-tokens);
+          few-unknown = omega (arith, r .past, g .few-unknown, u, one-most (eqb k 1 && eqb x 3));
+          few-errors = omega (arith, r .past, g .few-errors);
+          ts = g .ts ++ (t ∷ []);
+          ds = g .ds;
+          token-count = omega (arith, g .token-count, length-append (g .ts) (t ∷ []));
+          unknown-count = omega (arith, u, g .unknown-count, one-more (g .ts) t);
+          error-count = g .error-count;
+          token-table = f ∙ ap₂ (λ (l : List ℕ) (j : ℕ). stored 16 l j (encodeToken t)) (g .token-table) (g .token-count) ∙ more-tokens a₀ (g .ts) t;
+          error-table = g .error-table;
+          goes-on = λ us gs l.
+              subst (λ (q : List Token). Lexes 0 text q (g .ds ++ gs)) (sym (append-assoc (g .ts) (t ∷ []) us)) (g .goes-on (t ∷ us) gs (lexes-on r us gs l));
+        }
 
-        go : Stepped text at (Item.Token e k x y v) → Going text a₀ b₀ a′ b e (nt + 1) (nu + o) nd
-        go (Stepped.token r z) =
-            record {
-              short = g .short;
-              inside = r .inside;
-              rest = rest-on r;
-              few-tokens = omega (arith, r .past, g .few-tokens);
-              few-unknown = omega (arith, r .past, g .few-unknown, u, one-most (eqb x 3));
-              few-errors = omega (arith, r .past, g .few-errors);
-              ts = g .ts ++ (t ∷ []);
-              ds = g .ds;
-              token-count = omega (arith, g .token-count, length-append (g .ts) (t ∷ []));
-              unknown-count = omega (arith, u, g .unknown-count, one-more (g .ts) t, ap {B = ℕ} (λ (c : Bool). cond c 1 0) z);
-              error-count = g .error-count;
-              token-table = f ∙ ap₂ (λ (l : List ℕ) (j : ℕ). stored 16 l j (encodeToken t)) (g .token-table) (g .token-count) ∙ more-tokens a₀ (g .ts) t;
-              error-table = g .error-table;
-              goes-on = λ us gs l.
-                  subst (λ (q : List Token). Lexes 0 text q (g .ds ++ gs)) (sym (append-assoc (g .ts) (t ∷ []) us)) (g .goes-on (t ∷ us) gs (lexes-on r us gs l));
-            }
+    pub going-token : {a′ : List ℕ} {i : declared.Item} {e k : ℕ} → Stepped text at i → i ≡ Item.Token e k
+        → a′ ≡ stored 16 a nt (encodeToken (record { kind = k; suffix = 0; start = at; end = e; base = 0; value = 0 })) → Going text a₀ b₀ a′ b e (nt + 1) nu nd
+    going-token {a′} {i} {e} {k} w q f = go (subst (Stepped text at) q w)
+      where
+        none : (c : Bool) → nu ≡ nu + cond (c && false) 1 0
+        none true = omega arith
+        none false = omega arith
+
+        go : Stepped text at (Item.Token e k) → Going text a₀ b₀ a′ b e (nt + 1) nu nd
+        go (Stepped.token r) = going-more r (none (eqb k 1)) f
+
+    pub going-literal : {a′ : List ℕ} {i : declared.Item} {e v x y o : ℕ} → Stepped text at i → i ≡ Item.Literal e v x y → o ≡ cond (eqb x 3) 1 0
+        → a′ ≡ stored 16 a nt (encodeToken (record { kind = 1; suffix = x; start = at; end = e; base = y; value = v })) → Going text a₀ b₀ a′ b e (nt + 1) (nu + o) nd
+    going-literal {a′} {i} {e} {v} {x} {y} {o} w q u f = go (subst (Stepped text at) q w)
+      where
+        go : Stepped text at (Item.Literal e v x y) → Going text a₀ b₀ a′ b e (nt + 1) (nu + o) nd
+        go (Stepped.literal r) = going-more r (ap (nu +_) u) f
 
     pub going-error : {b′ : List ℕ} {i : declared.Item} {e c : ℕ} → Stepped text at i → i ≡ Item.Error e c
         → b′ ≡ stored 8 b nd (encodeDiagnostic (record { start = at; end = e; reason = c })) → Going text a₀ b₀ a b′ e nt nu (nd + 1)

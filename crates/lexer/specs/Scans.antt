@@ -1,9 +1,8 @@
 -- What the scanners answer. Assumes nothing.
 use mathlib.Core.Path.{_≡_}
-use mathlib.Core.Bool.{Bool, true, not, _&&_}
+use mathlib.Core.Bool.{Bool, true, not}
 use mathlib.Core.List.{List, [], _∷_}
 use Prim.Native.Nat.{ℕ, _+_, _≤_, _<_}
-use lib.Dec.{eqb}
 use lib.ListN.{length, drop, getD}
 use Rattle.patterns.specs.Bytes.{in-set, run}
 use Rattle.utf8.specs.Utf8.{Utf8, Begins, Rest}
@@ -64,9 +63,10 @@ pub record Reaches (text : List ℕ) (at e : ℕ) (i : Lexes.Item) : Type 0 wher
   pub step : Step (drop at text) n i
   pub rest : Rest (drop at text) n
 
--- the same at a place, with the numeral's answer; only numerals have a suffix
+-- the same at a place, with the numeral's answer
 pub data Stepped (text : List ℕ) (at : ℕ) : Item → Type 0 where
   skipped : {e : ℕ} → Reaches text at e Lexes.skipped → Stepped text at (Item.Skipped e)
-  token : {e k x b v : ℕ} → Reaches text at e (Lexes.token k x b v) → (eqb k NUMBER && eqb x 3) ≡ eqb x 3 → Stepped text at (Item.Token e k x b v)
+  token : {e k : ℕ} → Reaches text at e (Lexes.token k 0 0 0) → Stepped text at (Item.Token e k)
+  literal : {e v x b : ℕ} → Reaches text at e (Lexes.token NUMBER x b v) → Stepped text at (Item.Literal e v x b)
   error : {e r : ℕ} → Reaches text at e (Lexes.error r) → Stepped text at (Item.Error e r)
   broken : (Utf8 (drop at text) → ⊥) → Stepped text at Item.NotUtf8

@@ -38,9 +38,12 @@ pub enum Item {
     Token {
         end: usize,
         kind: u8,
+    },
+    Literal {
+        end: usize,
+        value: u64,
         suffix: u8,
         base: u8,
-        value: u64,
     },
     Error {
         end: usize,
@@ -84,9 +87,6 @@ fn step(
         Found::Token { kind, size } => Item::Token {
             end: at + size,
             kind,
-            suffix: 0,
-            base: 0,
-            value: 0,
         },
         Found::Number(n) => {
             let end = at + n;
@@ -96,12 +96,11 @@ fn step(
                     value,
                     suffix,
                     base,
-                } => Item::Token {
+                } => Item::Literal {
                     end,
-                    kind: LITERAL_NUMBER,
+                    value,
                     suffix,
                     base,
-                    value,
                 },
                 NumberLiteral::Overflow => Item::Error {
                     end,
@@ -168,17 +167,21 @@ fn pass(
                 Item::Skipped(end) => {
                     at = end;
                 }
-                Item::Token {
+                Item::Token { end, kind } => {
+                    put_token(tokens, token_count, kind, 0, at as u16, end as u16, 0, 0);
+                    token_count += 1;
+                    at = end;
+                }
+                Item::Literal {
                     end,
-                    kind,
+                    value,
                     suffix,
                     base,
-                    value,
                 } => {
                     put_token(
                         tokens,
                         token_count,
-                        kind,
+                        LITERAL_NUMBER,
                         suffix,
                         at as u16,
                         end as u16,

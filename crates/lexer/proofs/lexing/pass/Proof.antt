@@ -4,7 +4,7 @@ use native.Mathlib.Omega.{arith}
 use borrow.Author.Needs.{needs}
 use lib.ListN.{length, drop, getD}
 use Rattle.lexer.proofs.Scans.{begun-at}
-use Rattle.lexer.proofs.Going.{Going, going-none, going-white, going-skipped, going-token, going-error, going-done, going-broken, turned, same-tokens, same-errors}
+use Rattle.lexer.proofs.Going.{Going, going-none, going-white, going-skipped, going-token, going-literal, going-error, going-done, going-broken, turned, same-tokens, same-errors}
 use Rattle.lexer.proofs.lexing.pass.Statement.{statement}
 use Rattle.lexer.proofs.lexing.pass.Tie as tie
 
@@ -40,16 +40,23 @@ pass-spec =
     (λ c. let h = turned (c .before .before .before .before .step .ensures) _ (c .before .before .item2 .given .1) in omega arith)
     (λ c κs. search needs)
     (λ c. search needs)
-    (λ c κs. search needs)
-    (λ c. omega arith)
-    (λ c. let h = turned (c .before .before .before .before .before .before .before .before .step .ensures) _ (c .before .before .before .before .before .before .item2 .given .1) in omega arith)
+    (λ c. let h = turned (c .before .before .before .before .before .before .before .step .ensures) _ (c .before .before .before .before .before .item2 .given .1) in omega arith)
     (λ c. search (needs, going-token))
     (λ c. search needs)
     (λ c. search needs)
     (λ c. let h = turned (c .before .before .before .before .step .ensures) _ (c .before .before .item3 .given .1) in omega arith)
     (λ c κs. search needs)
     (λ c. search needs)
-    (λ c. let h = turned (c .before .before .before .before .before .before .before .step .ensures) _ (c .before .before .before .before .before .item3 .given .1) in omega arith)
+    (λ c κs. search needs)
+    (λ c. omega arith)
+    (λ c. let h = turned (c .before .before .before .before .before .before .before .before .step .ensures) _ (c .before .before .before .before .before .before .item3 .given .1) in omega arith)
+    (λ c. search (needs, going-literal))
+    (λ c. search needs)
+    (λ c. search needs)
+    (λ c. let h = turned (c .before .before .before .before .step .ensures) _ (c .before .before .item4 .given .1) in omega arith)
+    (λ c κs. search needs)
+    (λ c. search needs)
+    (λ c. let h = turned (c .before .before .before .before .before .before .before .step .ensures) _ (c .before .before .before .before .before .item4 .given .1) in omega arith)
     (λ c. search (needs, going-error))
     (λ c. search needs)
     (λ c κs. search needs)
