@@ -51,7 +51,7 @@ pub record Table (f : ℕ → ℕ) (l : List ℕ) : Type 0 where
 
 -- the key of a word
 abbrev pub keyOf : List ℕ → ℕ
-keyOf w = (getD w 0 0 * 9 + getD w 1 0 * 2 + length w) % 256
+keyOf w = (getD w 0 0 * 3 + getD w 1 0 * 10 + length w * 4) % 256
 
 -- the table has the kind of each keyword at its key, and no other kind; and the keyword's length and bytes at its kind
 pub record KeyTable (l : List ℕ) : Type 0 where

@@ -116,9 +116,9 @@ fn line_run(t: &[u8]) -> usize
 // The key of a word of n bytes that begins with these two.
 fn key(a: u8, b: u8, n: usize) -> usize
     requires { ⌜ n ≤ 8 ⌝ }
-    ensures { λ r. ⌜ (r ≡ (a * 9 + b * 2 + n) % 256) × (r < 256) ⌝ }
+    ensures { λ r. ⌜ (r ≡ (a * 3 + b * 10 + n * 4) % 256) × (r < 256) ⌝ }
 {
-    ((a as usize) * 9 + (b as usize) * 2 + n) % 256
+    ((a as usize) * 3 + (b as usize) * 10 + n * 4) % 256
 }
 
 // The kind of a word: a keyword's, or a name's. It is compared with the one keyword that has its key; most names have no keyword's.
