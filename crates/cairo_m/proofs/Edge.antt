@@ -11,7 +11,7 @@ use borrow.Author.Tests.{eqb-true, eqb-false, ltb-true}
 use Rattle.patterns.specs.Bytes.{bytes, within, same, starts, in-set, white, letter, digit, word, run}
 use Rattle.patterns.proofs.Tests.{T-of, and-l, and-r}
 use Rattle.patterns.proofs.Table.{within-is}
-use Rattle.patterns.proofs.Words.{same-self}
+use Rattle.patterns.proofs.Words.{same-is, same-self}
 use Rattle.tables.specs.Tables.{Token, Diagnostic}
 use Rattle.tables.specs.TokenKinds.{IDENT}
 use Rattle.utf8.specs.Utf8.{Utf8, Rest}
@@ -21,9 +21,9 @@ use Rattle.lexer.specs.Kinds.{texts, fixedOf}
 use Rattle.lexer.specs.Classes.{kindFrom, nextFrom, nextOf, pairOf, classOf}
 use Rattle.lexer.specs.Tokens.{Best}
 use Rattle.lexer.specs.Lexes.{Item, itemOf, Step, matched, tokens, errors, Lexes, done, step}
-use Rattle.lexer.specs.Scans.{KindIs, no-kind, Begun, Scanned}
+use Rattle.lexer.specs.Scans.{KindIs, kind, no-kind, Begun, Scanned}
 use Rattle.lexer.specs.declared.scan.Found.the-variants as Found
-use Rattle.lexer.proofs.Texts.{is-kind, no-pair, a-pair, white-is}
+use Rattle.lexer.proofs.Texts.{no-pair, a-pair, white-is}
 use Rattle.lexer.proofs.Scans.{Marked, found-white, found-name, found-numeral, found-last, found-slash, found-single, found-pair}
 use Rattle.grammar.proofs.Edge.{Row, row, rows}
 use Rattle.cairo_m.proofs.Lexed.{either-way}
@@ -56,7 +56,7 @@ keyword-is : (k : ℕ) (w : List ℕ) → k ≤ 18 → ((j : ℕ) → k + 2 ≤ 
 unfolding keyword
 keyword-is zero w h f = no-kind refl f
 keyword-is (suc k) w h f =
-    either-way (KindIs 2 19 IDENT w) (same (fixedOf (k + 2)) w) (λ e. is-kind 2 19 IDENT w (k + 2) (omega arith) (omega arith) e)
+    either-way (KindIs 2 19 IDENT w) (same (fixedOf (k + 2)) w) (λ e. kind (omega arith) (omega arith) (same-is (fixedOf (k + 2)) w e))
     (λ e. keyword-is k w (omega arith) (λ j a b q. elim (ℕ-discrete j (k + 2)) [ yes p ↦ not-here j e p q | no p ↦ f j (omega arith) b q ]))
   where
     not-here : (j : ℕ) → same (fixedOf (k + 2)) w ≡ false → j ≡ k + 2 → w ≡ fixedOf j → ⊥
