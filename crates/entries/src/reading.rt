@@ -1,10 +1,10 @@
 // A reading as numbers, and the spelling of a name, for C.
-use cairo_m::Reading;
-use cairo_m::outcome_of;
-use cairo_m::read;
 use crate::names::spelling;
 use crate::records::Diagnostic;
 use crate::records::lay;
+use cairo_m::Reading;
+use cairo_m::outcome_of;
+use cairo_m::read;
 ghost use mathlib.Core.Path.{_≡_};
 ghost use lib.ListN.{length};
 ghost use Rattle.cairo_m.specs.Reading.{countsOf};

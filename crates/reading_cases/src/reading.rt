@@ -1,8 +1,8 @@
 // One reading, and what it left.
-use entries::read_numbers;
 use case_io::field;
 use case_io::stray;
 use case_io::words;
+use entries::read_numbers;
 use listing::Listed;
 use listing::list;
 use listing::list_refused;
