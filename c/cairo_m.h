@@ -22,7 +22,7 @@
 // * The text is only read. It needs no zero at its end and may have any bytes.
 // * The host is little-endian: the archive is for x86-64.
 // * The stack that a call takes does not grow with the text, only with its nest, which is bounded: measured, a reading takes under
-//   10,000 bytes where little is nested and at most 243,000. A thread of its own is given 512 KiB or more.
+//   10,000 bytes where little is nested and at most 193,000. A thread of its own is given 512 KiB or more.
 
 #ifndef CAIRO_M_H
 #define CAIRO_M_H
