@@ -44,11 +44,17 @@ def is_type(name):
     return bool(re.match(r"[A-Z]", name))
 
 
+LIBRARY = re.compile(r"use (?:[a-z]\w*|Prim|Rattle\.std)\.[\w.]+\.\{([^}]*)\}")
+
+
 def declared():
-    """Each own name."""
-    found = set()
+    """Each own name: what a line of an antt file declares, but for what one imports from a library, as a call can stand first in a line."""
+    found, imported = set(), set()
     for path in files("crates", ".antt"):
-        for line in open(path, encoding="utf-8"):
+        text = open(path, encoding="utf-8").read()
+        for m in LIBRARY.finditer(text):
+            imported.update(n.split(" as ")[0].strip() for n in m.group(1).split(","))
+        for line in text.splitlines():
             if line.lstrip().startswith("--") or not line.strip():
                 continue
             m = DECLARED.match(line)
@@ -60,7 +66,7 @@ def declared():
             for name in names:
                 if name not in WORDS:
                     found.add(name)
-    return found
+    return found - imported
 
 
 def new_names(found):

@@ -1,4 +1,6 @@
 // From the bytes of a Cairo-M text to its tree, after parse_file, with 01's outcomes.
+#![tactic(auto)]
+
 mod suffixes;
 
 ghost use Rattle.std.specs.Prelude.{◌≡◌, length};
@@ -9,7 +11,7 @@ use lexer::{Answer, lex_alone};
 use tables::clear_from;
 
 // The outcomes of a reading, with how many tokens, nodes or errors there are.
-#[derive(Drop)]
+#[derive(Clone, Copy)]
 pub enum Reading {
     Accepted { tokens: usize, nodes: usize },
     Long,

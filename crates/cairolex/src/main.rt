@@ -1,4 +1,6 @@
 // Lists the tokens of the Cairo-M text on standard input: one line of JSON without spaces.
+#![tactic(auto)]
+
 mod kind;
 mod rows;
 

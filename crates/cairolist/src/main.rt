@@ -1,4 +1,6 @@
 // Prints the tree of the Cairo-M text on standard input, or why it is refused: one line of JSON.
+#![tactic(auto)]
+
 ghost use Rattle.std.specs.Prelude.{◌≤◌};
 
 use entries::read_numbers;

@@ -1,5 +1,7 @@
 // What the programs that run test cases share: reading a file of cases, writing the answers, looking through a table's bytes.
 // The contracts say what keeps a caller safe. What is read and written is held to the case files.
+#![tactic(auto)]
+
 ghost use Rattle.std.specs.Prelude.{◌≤◌, max, length};
 
 // The place of the next line feed from `at` on, or the end.
@@ -16,7 +18,7 @@ pub fn line_end(file: &[u8], at: usize) -> usize
     i
 }
 
-#[derive(Drop)]
+#[derive(Clone, Copy)]
 pub struct Decimal {
     pub value: usize,
     pub next: usize,

@@ -1,4 +1,6 @@
 // Where a reader stands, and the steps that every reader is made of.
+#![tactic(auto)]
+
 ghost use Rattle.std.specs.Prelude.{◌≡◌, cond, eqb, take as first_of, drop, ◌+◌, ◌-◌, pred, min};
 ghost use Rattle.tables.specs.Tables.{token_at};
 ghost use Rattle.grammar.specs.Derive.{step, take, leaf, index, literal, count, close, tick, alone, literal_kind, type_name, spelling, first_token, first_part, last_token, last_part, call_end};
@@ -23,7 +25,7 @@ pub const DEEP: u8 = 2;
 const LIMIT: u8 = 64;
 
 // Without gaps, and what seldom changes last.
-#[derive(Drop)]
+#[derive(Clone, Copy)]
 pub struct Cursor {
     // The next token, and how many nodes there are.
     pub at: usize,
@@ -43,7 +45,7 @@ pub struct Cursor {
 
 // What a rule has read: where it ended, how many nodes there are then, how far attempts came, and the part that it is of what is around it.
 // The status stands off every fourth byte, where it would be loaded with the gap behind it, which waits for its store.
-#[derive(Drop)]
+#[derive(Clone, Copy)]
 pub struct Part {
     pub at: usize,
     pub count: usize,
@@ -54,7 +56,7 @@ pub struct Part {
 }
 
 // What a statement has read, and whether an `else` where it ended is known to fail.
-#[derive(Drop)]
+#[derive(Clone, Copy)]
 pub struct StmtPart {
     pub part: Part,
     pub tried: bool,

@@ -1,4 +1,6 @@
 // Diagnostic entries.
+#![tactic(auto)]
+
 ghost use Rattle.std.specs.Prelude.{◌≡◌, ◌/◌, length};
 ghost use Rattle.tables.specs.Tables.{encode_diagnostic, stored, kept, diagnostic_at};
 

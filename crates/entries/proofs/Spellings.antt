@@ -5,7 +5,7 @@ use mathlib.Core.List.{List, []}
 use Prim.Native.Nat.{ℕ, ◌-◌, ◌≤◌, ◌<◌}
 use lib.Dec.{eqb, leb}
 use lib.ListN.{length, take, drop}
-use borrow.Author.Tests.{le-leb, lt_leb, ne_eqb}
+use borrow.Author.Tests.{le-leb, lt-leb, ne_eqb}
 use Rattle.entries.specs.Spelling.{spelt, spelling_of}
 
 -- ---- the kinds
@@ -38,7 +38,7 @@ module _ (text : List ℕ) (k a e : ℕ) {b : Bool} where
 
 module _ (text : List ℕ) (k a e : ℕ) where
   pub turned_span : e < a → ◌≡◌ {A = List ℕ} [] (spelling_of text k a e)
-  turned_span h = sym (rw (lt_leb a e h, second_off (spelt k) (leb e (length text))))
+  turned_span h = sym (rw (lt-leb a e h, second_off (spelt k) (leb e (length text))))
 
   pub outside_text : length text < e → ◌≡◌ {A = List ℕ} [] (spelling_of text k a e)
-  outside_text h = sym (rw (lt_leb e (length text) h, third_off (spelt k) (leb a e)))
+  outside_text h = sym (rw (lt-leb e (length text) h, third_off (spelt k) (leb a e)))

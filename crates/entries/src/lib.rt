@@ -1,4 +1,6 @@
 // The entries for C: every answer as numbers.
+#![tactic(auto)]
+
 mod lists;
 mod names;
 mod numerals;

@@ -5,7 +5,7 @@ ghost use Rattle.entries.specs.Numbers.{record_at};
 
 // A span and the reason: 1 character, 2 overflow, 3 format, 4 unknown suffix.
 #[repr(C)]
-#[derive(Drop)]
+#[derive(Clone, Copy)]
 pub struct Diagnostic {
     pub start: u16,
     pub end: u16,

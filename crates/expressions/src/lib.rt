@@ -1,4 +1,6 @@
 // Expressions: atoms, postfixes, prefixes, casts, and the binary levels.
+#![tactic(auto)]
+
 pub mod alloc_types;
 
 ghost use Rattle.grammar.specs.Derive.{rule, expr, level, unary, many, ◌&◌, ◌or◌};

@@ -1,4 +1,6 @@
 // The fields of a table's entries, as numbers.
+#![tactic(auto)]
+
 ghost use Rattle.std.specs.Prelude.{◌≡◌, ◌+◌, ◌*◌, ◌/◌, ◌≤◌, ◌<◌};
 ghost use Rattle.tables.specs.Tables.{field_at};
 

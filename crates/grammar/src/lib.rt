@@ -1,2 +1,4 @@
 // The grammar of Cairo-M is in specs/ and its theorems in proofs/; the code is the numbers of its node kinds.
+#![tactic(auto)]
+
 pub mod node_kind;

@@ -8,9 +8,9 @@ use native.Mathlib.Nat.{add-zero}
 use native.Mathlib.Omega.{arith}
 use native.Mathlib.Decide.{dec_lt}
 use lib.Dec.{T, leb, ltb, leb→le}
-use lib.ListN.{length, take, drop, get_or, length-take, length-drop, get_or_eq_default}
+use lib.ListN.{length, take, drop, get_or, length-take, length-drop, get_or-eq_default}
 use lib.Seq.{get_or-drop, take_all, drop-drop}
-use borrow.Author.Tests.{eq-eqb, ne_eqb, le-leb, lt_leb, lt-ltb, ltb-true}
+use borrow.Author.Tests.{eq-eqb, ne_eqb, le-leb, lt-leb, lt-ltb, ltb-true}
 use Rattle.patterns.specs.Bytes.{within, Set, in_set, white, word, run}
 use Rattle.patterns.specs.Patterns.{All}
 use Rattle.patterns.proofs.Tests.{T_of, of_T, or_cases, implies}
@@ -44,7 +44,7 @@ module _ {t l : List ℕ} {i : ℕ} (r : Table class_of l) (h : i < length t) (s
   word_more p a = passed_more p h (word_is _ _ small (r.rule _ small) ∙ le-leb 0xFE _ a)
 
   pub word_stop : Passed (in_set word) t i → get_or l (get_or t i 0) 0 < 0xFE → i ≡ run (in_set word) t
-  word_stop p a = passed_stop p h (word_is _ _ small (r.rule _ small) ∙ lt_leb 0xFE _ a)
+  word_stop p a = passed_stop p h (word_is _ _ small (r.rule _ small) ∙ lt-leb 0xFE _ a)
 
 run_past : (f : ℕ → Bool) (m : ℕ) (s : List ℕ) → m ≤ run f s → run f s ≡ m + run f (drop m s)
 unfolding run
@@ -268,7 +268,7 @@ module _ {s : List ℕ} {c : ℕ} (m : Marked s c) where
       single (λ q e. omega (arith, r.0)) (λ j a b e. omega (arith, n, (next_is j (get_or s 0 0) (get_or s 1 0) b e).1))
 
   pub found_last : length s ≡ 1 → Scanned s (Found.Token c 1)
-  found_last h = single (λ q e. omega (arith, get_or_eq_default s 0 {n = 1} (omega arith))) (λ j a b e. omega arith)
+  found_last h = single (λ q e. omega (arith, get_or-eq_default s 0 {n = 1} (omega arith))) (λ j a b e. omega arith)
 
   pub found_slash : c ≡ 36 → (get_or s 1 0 ≡ 47 → ⊥) → Scanned s (Found.Token c 1)
   found_slash q n = single (λ p. n) (λ j a b e. (next_is j (get_or s 0 0) (get_or s 1 0) b e).2 (mark_of.3 (sym m.begun.class_is ∙ q)))

@@ -8,7 +8,7 @@ use Prim.Native.String.{String}
 use native.Mathlib.Omega.{arith}
 use native.Mathlib.Decide.{dec_lt, ℕ_discrete}
 use lib.Dec.{T, leb, ltb, eqb, le→leb, leb→le, eqb→eq, T_not}
-use lib.ListN.{length, take, drop, get_or, get_or_eq_default}
+use lib.ListN.{length, take, drop, get_or, get_or-eq_default}
 use lib.Seq.{take_all}
 use borrow.Author.Tests.{eqb-true, eq-eqb, ne_eqb, lt-ltb}
 use Rattle.patterns.specs.Bytes.{bytes, within, same, starts, Set, in_set, white, letter, digit, word, run}
@@ -31,7 +31,7 @@ unfolding fixed_of texts
 fixed_kind k h =
     elim (dec_lt k 51) [
       | yes p ↦ p
-      | no p ↦ absurd (omega (arith, ap (λ (t : String). length (bytes t)) (get_or_eq_default texts "" {n = k} (omega arith))))
+      | no p ↦ absurd (omega (arith, ap (λ (t : String). length (bytes t)) (get_or-eq_default texts "" {n = k} (omega arith))))
     ]
 
 -- two kinds have two texts: the kind can be found from its text

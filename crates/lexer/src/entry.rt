@@ -6,7 +6,7 @@ use super::lexing::{Lexed, lex};
 use tables::clear_from;
 use token::room;
 
-#[derive(Drop)]
+#[derive(Clone, Copy)]
 pub enum Answer {
     Accepted { tokens: usize, unknown: usize },
     Long,

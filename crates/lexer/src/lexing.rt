@@ -22,7 +22,7 @@ const FORMAT: u8 = 3;
 const OTHER_SUFFIX: u8 = 3;
 
 // What stands at a place, and where it ends.
-#[derive(Drop)]
+#[derive(Clone, Copy)]
 pub enum Item {
     Skipped(usize),
     Token {
@@ -42,7 +42,7 @@ pub enum Item {
     NotUtf8,
 }
 
-#[derive(Drop)]
+#[derive(Clone, Copy)]
 pub enum Lexed {
     Long,
     Encoding,

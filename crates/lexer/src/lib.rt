@@ -1,4 +1,6 @@
 // From the bytes of a Cairo-M text to its tokens, after lexer.rs.
+#![tactic(auto)]
+
 mod class;
 mod entry;
 mod lexing;

@@ -12,7 +12,7 @@ use tables::token_type;
 use utf8::char_len;
 
 // What stands at the start of a text, and its size.
-#[derive(Drop)]
+#[derive(Clone, Copy)]
 pub enum Found {
     Skip(usize),
     Token { kind: u8, size: usize },

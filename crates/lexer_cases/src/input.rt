@@ -20,7 +20,7 @@ pub fn bytes(line: &[u8], at: usize, text: &mut [u8]) -> usize
 }
 
 // A place in the line, how many bytes it has given, and the last of them.
-#[derive(Drop)]
+#[derive(Clone, Copy)]
 struct Step {
     at: usize,
     n: usize,

@@ -1,4 +1,6 @@
 // Answers the cases on standard input, by a line each; tests/expected.py writes the cases and the answers that are owed.
+#![tactic(auto)]
+
 mod input;
 mod lexing;
 

@@ -6,7 +6,7 @@ use mathlib.Core.List.{List}
 use native.Mathlib.Omega.{arith}
 use lib.ListN.{length, drop}
 use Rattle.tables.specs.Tables.{node_at, nodes_of}
-use Rattle.json.proofs.Arrays.{left_some, left_none}
+use Rattle.json_text.proofs.Arrays.{left_some, left_none}
 use Rattle.listing.specs.Answers.{known, all_are_known}
 
 -- every node before entry i is known

@@ -6,12 +6,12 @@ use Prim.Native.Nat.{ℕ, ◌≤◌, ◌<◌, zero-le}
 use native.Mathlib.Omega.{arith}
 use lib.ListN.{length}
 use lib.Seq.{length-take-le}
-use borrow.Author.Tests.{le-leb, lt_leb}
+use borrow.Author.Tests.{le-leb, lt-leb}
 use Rattle.tables.specs.Tables.{Node, filled, cleared}
 use Rattle.tables.proofs.Laws.{cleared_all, filled_is}
-use Rattle.json.specs.Json.{listing}
+use Rattle.json_text.specs.Json.{listing}
 use Rattle.listing.specs.Answers.{all_are_known, fitted, listed, ListedIs}
-use Rattle.json.specs.Writes.{Holds, held, full, Writes}
+use Rattle.json_text.specs.Writes.{Holds, held, full, Writes}
 use Rattle.listing.specs.Finishes.{Finishes}
 use Rattle.listing.specs.declared.Listed.{Listed}
 use Rattle.listing.specs.declared.Listed.TheVariants.{Text, Kind, Room}
@@ -28,7 +28,7 @@ text_on h (full k l) = absurd (omega arith)
 room_left : {t T : List ℕ} {at : ℕ} → length T < at → Holds t at T → ListedIs (fitted (length T) t) (length T) (cleared 0 T) Room
 unfolding fitted
 room_left h (held k e) = absurd (omega arith)
-room_left {t} {T} h (full k l) = rw (lt_leb (length t) (length T) k) record { answer = refl; bytes = cleared_all T }
+room_left {t} {T} h (full k l) = rw (lt-leb (length t) (length T) k) record { answer = refl; bytes = cleared_all T }
 
 module _ {T U : List ℕ} {at : ℕ} where
   pub finish_text : at ≤ length T → U ≡ cleared at T → Finishes at T U (Text at)

@@ -2,7 +2,7 @@
 use Rattle.std.specs.Prelude.{◌≡◌, Bool, true, cond, ◌&&◌, List, [], ◌∷◌, ℕ, leb, length, replicate}
 use Rattle.patterns.specs.Bytes.{within}
 use Rattle.tables.specs.Tables.{Node, Diagnostic, filled}
-use Rattle.json.specs.Json.{names, listing, refusal}
+use Rattle.json_text.specs.Json.{names, listing, refusal}
 use Rattle.listing.specs.declared.Listed.{Listed}
 use Rattle.listing.specs.declared.Listed.TheVariants as Listed
 

@@ -1,6 +1,6 @@
 -- The contract of the private function that ends a listing. Assumes nothing.
 use Rattle.std.specs.Prelude.{List, ℕ, length}
-use Rattle.json.specs.Writes.{Holds}
+use Rattle.json_text.specs.Writes.{Holds}
 use Rattle.listing.specs.Answers.{fitted, ListedIs}
 use Rattle.listing.specs.declared.Listed.{Listed}
 

@@ -1,14 +1,16 @@
 // A node table as JSON, and a refusal as JSON.
+#![tactic(auto)]
+
 ghost use Rattle.std.specs.Prelude.{◌≡◌, length};
 ghost use Rattle.tables.specs.Tables.{nodes_of, diagnostics_of};
 ghost use Rattle.listing.specs.Answers.{known, all_are_known, listed, refused, ListedIs};
 ghost use Rattle.listing.specs.Finishes.{Finishes};
 
-use json::{diagnostic_rows, node_rows, put, put_number};
+use json_text::{diagnostic_rows, node_rows, put, put_number};
 use tables::clear_from;
 
 // The text's length, outcome 11, outcome 10.
-#[derive(Drop)]
+#[derive(Clone, Copy)]
 pub enum Listed {
     Text(usize),
     Kind,

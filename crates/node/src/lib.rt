@@ -1,4 +1,6 @@
 // Node entries.
+#![tactic(auto)]
+
 ghost use Rattle.std.specs.Prelude.{◌≡◌, ◌/◌, length};
 ghost use Rattle.tables.specs.Tables.{encode_node, stored, kept, node_at};
 

@@ -7,7 +7,7 @@ use native.Mathlib.Omega.{arith}
 use lib.Dec.{T, ltb, eqb, eqb→eq}
 use lib.ListN.{length, get_or}
 use lib.Seq.{take_all}
-use borrow.Author.Tests.{lt_leb, le-leb, eq-eqb, ne_eqb, le-ltb, lt-ltb, not-true, not-false}
+use borrow.Author.Tests.{lt-leb, le-leb, eq-eqb, ne_eqb, le-ltb, lt-ltb, not-true, not-false}
 use Rattle.patterns.specs.Bytes.{in_set, digit, word, run}
 use Rattle.patterns.specs.Patterns.{All}
 use Rattle.patterns.proofs.Tests.{T_of, of_T, and_l, and_r}
@@ -70,11 +70,11 @@ spelled_empty (b ∷ s) h = absurd (omega arith)
 module _ (s : List ℕ) where
   pub spelled_low : get_or s 0 0 < 48 → false ≡ spelled s
   unfolding spelled digit
-  spelled_low h = rw (lt_leb 48 (get_or s 0 0) h)
+  spelled_low h = rw (lt-leb 48 (get_or s 0 0) h)
 
   pub spelled_high : 57 < get_or s 0 0 → false ≡ spelled s
   unfolding spelled digit
-  spelled_high h = rw (le-leb 48 (get_or s 0 0) (omega arith), lt_leb (get_or s 0 0) 57 h)
+  spelled_high h = rw (le-leb 48 (get_or s 0 0) (omega arith), lt-leb (get_or s 0 0) 57 h)
 
   pub spelled_more : (i : ℕ) (r : Bool) → Passed (in_set word) s i → i < length s → r ≡ in_set word (get_or s i 0) → r ≡ true → Passed (in_set word) s (i + 1)
   spelled_more i r p h e q = passed_more p h (sym e ∙ q)

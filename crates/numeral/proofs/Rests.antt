@@ -9,7 +9,7 @@ use native.Mathlib.Nat.{le_refl}
 use native.Mathlib.Omega.{arith}
 use native.Mathlib.Decide.{dec_le}
 use lib.Dec.{leb, ltb, eqb, lit<, lit≤, leb→le}
-use lib.ListN.{length, take, drop, get_or, length-drop, drop_of_length-le, get_or_eq_default}
+use lib.ListN.{length, take, drop, get_or, length-drop, drop_of_length-le, get_or-eq_default}
 use lib.Seq.{take_all, get_or-drop}
 use borrow.Author.Tests.{ltb-true, ne_eqb}
 use Rattle.patterns.specs.Bytes.{bytes, within, in_set, either, run, starts}
@@ -44,7 +44,7 @@ module _ (base : ℕ) (s : List ℕ) (k : ℕ) (e : k ≡ cut_of base s) where
 
   pub rest_end : (r : NumberLiteral) → (k ≡ 0 → ⊥) → length s ≤ k → r ≡ reading base 0 0 s → r ≡ rest_of base s
   unfolding rest_of read_to digit_in digit_of suffix_kind
-  rest_end r h p u = u ∙ rw (← e, ne_eqb k 0 h, get_or_eq_default s 0 p, drop_of_length-le s p, take_all k s p)
+  rest_end r h p u = u ∙ rw (← e, ne_eqb k 0 h, get_or-eq_default s 0 p, drop_of_length-le s p, take_all k s p)
 
 -- ---- a rest that is all digits, and the base that is told: neither word occurs in it, since l and u are no digits
 digits_all : (base x v : ℕ) (s : List ℕ) (a b d : ℕ) → reading base x v s ≡ Number a b d → All (digit_in base) s × (d ≡ base)

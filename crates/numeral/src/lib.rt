@@ -1,4 +1,6 @@
 // The value, the suffix and the base of a numeral's spelling, after lexer.rs.
+#![tactic(auto)]
+
 mod outcome;
 
 ghost use Rattle.std.specs.Prelude.{◌≡◌, ◌+◌, ◌*◌, ◌≤◌, ◌<◌, min, ltb, length};
@@ -10,7 +12,7 @@ ghost use Rattle.numeral.specs.Numeral.{most, base_of, digit_of, digit_in, last_
 pub use outcome::Answer;
 use patterns::{is_word, starts_with};
 
-#[derive(Drop)]
+#[derive(Clone, Copy)]
 pub enum NumberLiteral {
     Number { value: u64, suffix: u8, base: u8 },
     Overflow,

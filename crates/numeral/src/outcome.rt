@@ -1,5 +1,5 @@
 // The numeral entry's answer.
-#[derive(Drop)]
+#[derive(Clone, Copy)]
 pub enum Answer {
     Number { value: u64, suffix: u8, base: u8 },
     Long,

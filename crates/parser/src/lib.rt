@@ -1,4 +1,6 @@
 // The readers of Cairo-M: tokens to nodes. Each says which part of the grammar it reads.
+#![tactic(auto)]
+
 mod items;
 
 ghost use Rattle.std.specs.Prelude.{length};
@@ -12,7 +14,7 @@ use node::keep_nodes;
 use token::room;
 
 // What a text's tokens are: a tree with so many nodes, no tree, with the first token that no attempt takes, or too deep.
-#[derive(Drop)]
+#[derive(Clone, Copy)]
 pub enum Parsed {
     Tree(usize),
     Syntax(usize),

@@ -1,4 +1,6 @@
 // Answers the cases on standard input, by a line each; tests/parser_expected.py writes the cases and the answers that are owed.
+#![tactic(auto)]
+
 mod given;
 mod run;
 mod tree;

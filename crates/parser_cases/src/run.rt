@@ -4,7 +4,7 @@ use case_io::number;
 use token::{put_token, room};
 
 // Where the line and the table go on.
-#[derive(Drop)]
+#[derive(Clone, Copy)]
 pub struct Laid {
     pub next: usize,
     pub end: usize,

@@ -1,4 +1,6 @@
 // Fixed byte strings, compared with what stands in a text.
+#![tactic(auto)]
+
 ghost use Rattle.std.specs.Prelude.{◌≡◌};
 ghost use Rattle.patterns.specs.Bytes.{starts, same};
 

@@ -1,4 +1,6 @@
 // Answers the readings on standard input, by two lines each; tests/differential writes the cases and the answers that are owed.
+#![tactic(auto)]
+
 mod reading;
 
 ghost use Rattle.std.specs.Prelude.{◌<◌, length};

@@ -1,4 +1,6 @@
 // Statements.
+#![tactic(auto)]
+
 mod let_pattern;
 pub mod types;
 

@@ -6,9 +6,9 @@ use native.Mathlib.Nat.{zero-mul, mul-zero, suc-mul, add_comm, add-zero, add-suc
 use native.Mathlib.Numerals.{add-one, towards_suc}
 use native.Mathlib.Omega.{arith}
 use native.Mathlib.Decide.{dec_lt}
-use lib.ListN.{length, get_or, take, drop, set, replicate, length-append, length-take, length-drop, length-replicate, length-set, get_or_eq_default}
+use lib.ListN.{length, get_or, take, drop, set, replicate, length-append, length-take, length-drop, length-replicate, length-set, get_or-eq_default}
 use lib.Seq.{take-nil, take_all, take-append-le, take-append-add, drop-append-add, take_at, drop_at, drop-drop, sets, sets-eq, take-suc-set, get_or-take, get_or-drop, ext_get_or}
-use borrow.Author.Tests.{lt-ltb, le-ltb, le-leb, lt_leb}
+use borrow.Author.Tests.{lt-ltb, le-ltb, le-leb, lt-leb}
 use Rattle.tables.specs.Tables.{Token, Node, Diagnostic, le16, le64, encode_token, encode_node, encode_diagnostic, joined, filled, table, laid, stored, cleared, kept, number, entry_at, decode_token, decode_node, decode_diagnostic, field_at, token_at, node_at, diagnostic_at, token_table, node_table, diagnostic_table, tabulate, tokens_of}
 
 abbrev zeros : ℕ → List ℕ
@@ -264,7 +264,7 @@ module _ (w i : ℕ) (t : List ℕ) where
   field_none a n fits h = rw (le-leb (a + n) w fits) (number_none a n h)
 
   pub field_out : (a n : ℕ) → w < a + n → 0 ≡ field_at w t i a n
-  field_out a n h = rw (lt_leb (a + n) w h)
+  field_out a n h = rw (lt-leb (a + n) w h)
 
 -- ---- what was laid down is read back
 module _ {A : Type 0} (f : A → List ℕ) (w : ℕ) (some_size : 0 < w) (each : (a : A) → length (f a) ≡ w) where
@@ -412,7 +412,7 @@ tokens_at t i =
     elim (dec_lt i (length t / 16)) [
       | yes p ↦ tabulate_at _ _ i zero_token p
       | no p ↦
-          get_or_eq_default (tokens_of t) zero_token (omega (arith, tokens_length t))
+          get_or-eq_default (tokens_of t) zero_token (omega (arith, tokens_length t))
           ∙ sym (token_none (entry_at 16 t i) (λ a k _. sym (number_none 16 i t a k (omega arith))))
     ]
 

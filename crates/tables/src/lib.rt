@@ -1,4 +1,6 @@
 // Lent tables of entries, each of one size: 16 bytes for tokens and nodes, 8 for diagnostics.
+#![tactic(auto)]
+
 pub mod token_type;
 
 ghost use Rattle.std.specs.Prelude.{◌≡◌, ◌++◌, ◌+◌, ◌≤◌, length};

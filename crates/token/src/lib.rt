@@ -1,4 +1,6 @@
 // Token entries.
+#![tactic(auto)]
+
 ghost use Rattle.std.specs.Prelude.{◌≡◌, ◌/◌, length};
 ghost use Rattle.tables.specs.Tables.{encode_token, stored, kept, token_at};
 

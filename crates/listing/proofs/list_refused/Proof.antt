@@ -1,8 +1,8 @@
 use borrow.Author.Rules.{rules}
 use native.Mathlib.Omega.{arith}
 use Rattle.listing.specs.Answers.{refused}
-use Rattle.json.proofs.Writing.{both, same_text}
-use Rattle.json.proofs.Fields.{refusal_is}
+use Rattle.json_text.proofs.Writing.{both, same_text}
+use Rattle.json_text.proofs.Fields.{refusal_is}
 use Rattle.listing.proofs.Results.{written}
 use Rattle.listing.proofs.list_refused.Statement.{statement}
 use Rattle.listing.proofs.list_refused.Tie as tie

@@ -1,6 +1,0 @@
-// The JSON of nodes and of diagnostics, written piece by piece.
-mod rows;
-mod writer;
-
-pub use rows::{diagnostic_rows, node_rows};
-pub use writer::{put, put_number};
