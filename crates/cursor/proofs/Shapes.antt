@@ -83,6 +83,7 @@ module _ {x : Input} where
   element_cases never d i m (or_left (and_right e t)) = inr (or_left (moved d e t))
   element_cases never d i m (or_right e (and_left (or_left (and_left t)))) = inl t
   element_cases never d i m (or_right e (and_left (or_left (and_right f t)))) = inr (or_right (after_none d e) (and_left (moved d f t)))
+  element_cases never d i m (or_right e (and_left (or_right _ t))) = elim t [ ]
   element_cases never d i m (or_right e (and_right (or_first (and_then f g)) t)) = inr (or_right (after_none d e) (and_right (rw (same (unique f d)) at g) t))
   element_cases {t = t} never d i m (or_right e (and_right (or_else f g) y)) = absurd (never t (after_none d f))
 
