@@ -16,7 +16,7 @@ use Rattle.grammar.proofs.Progress.{sane?, sane_of}
 use Rattle.grammar.proofs.Whole.{solid, derives}
 use Rattle.grammar.proofs.Total.{Some, some}
 use Rattle.cursor.specs.Entries.{input}
-use Rattle.cursor.specs.Read.{Attempt, READING, FAILED, Represents, reached, Result, matched, failed, exceeded, Reads, still, reads}
+use Rattle.cursor.specs.Read.{Attempt, READING, FAILED, reached, Result, matched, failed, exceeded, Reads, still, reads}
 use Rattle.cursor.specs.Steps.{rewound, Agreed, agrees_not, agrees_else, agrees, shallow}
 use Rattle.cursor.specs.declared.Cursor.{Cursor}
 use Rattle.cursor.proofs.Attempts.{within_as, within_both, attempt_as, attempt_from, attempt_settled, attempt_and_not, attempt_and_then, attempt_or_else, attempt_both, attempt_step}

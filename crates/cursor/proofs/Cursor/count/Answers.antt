@@ -1,4 +1,3 @@
-use borrow.Author.Rules.{rules}
 use borrow.Author.Tests.{ne_eqb}
 use Rattle.cursor.specs.Read.{puts}
 use Rattle.cursor.proofs.Laws.{one_step}

@@ -1,5 +1,4 @@
 use mathlib.Core.Path.{refl}
-use borrow.Author.Rules.{rules}
 use Rattle.cursor.specs.Read.{puts}
 use Rattle.cursor.proofs.Steps.{wanted, unwrapped, emits}
 use Rattle.cursor.proofs.Cursor.leaf.Goals as goal

@@ -1,4 +1,3 @@
-use borrow.Author.Rules.{rules}
 use Rattle.tables.specs.Tables.{token_at}
 use Rattle.grammar.specs.Derive.{noted}
 use Rattle.cursor.specs.Read.{puts}

@@ -1,6 +1,5 @@
 use borrow.Author.Rules.{rules}
 use Rattle.cursor.specs.Read.{free}
-use Rattle.cursor.proofs.Laws.{idle}
 use Rattle.cursor.proofs.Steps.{ticks}
 use Rattle.cursor.proofs.Cursor.tick.Goals as goal
 
