@@ -193,11 +193,10 @@ def convert(folder, fn, text, module):
     # invariants and measures that stand in place
     inline = [p for p in parts if re.match(r"λ (?!c\b)", p)]
     if len(inline) == 2 * len(fn.loops):
-        n = len(fn.loops)
         for i, p in enumerate(inline):
-            (old, new), variables = fn.loops[i % n]
+            (old, new), variables = fn.loops[i // 2]
             m = re.match(r"λ ([^.]*)\.\s*(.*)", p, re.S)
-            inv.append(bound("invariant" if i < n else "decreases", new, m.group(1).split(), m.group(2), variables, fn.changed[i % n], said))
+            inv.append(bound("decreases" if i % 2 else "invariant", new, m.group(1).split(), m.group(2), variables, fn.changed[i // 2], said))
     # helpers at a place, and those that are an answer
     named = {}
     for i, h in enumerate(helpers):
