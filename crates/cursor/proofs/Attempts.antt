@@ -30,7 +30,7 @@ module _ {x : Input} where
   along : {g h : G} {i m n k : ℕ} {s t : S} → ((j : ℕ) → Takes body x nests i j g k s → Takes body x nests i j h k t) → Shifted x i m g n k s → Shifted x i m h n k t
   along f r = record { deeper = r.deeper; was = r.was; is = f _ r.is }
 
-  pub shift : {g : G} {i m n : ℕ} {s : S} (k : ℕ) → Takes body x nests i m g n s → Shifted x i m g n k s
+  pub shift : {i m : ℕ} {g : G} {n : ℕ} {s : S} (k : ℕ) → Takes body x nests i m g n s → Shifted x i m g n k s
   shift k (here e f h) = record { deeper = 0; was = omega (arith, h); is = here {n = k} e f (omega arith) }
   shift k (and_left t) = along (λ j. and_left) (shift k t)
   shift k (and_right d t) = along (λ j. and_right d) (shift k t)

@@ -10,7 +10,6 @@ use Rattle.tables.specs.TokenKinds.{ELSE, LET, CONST}
 use Rattle.grammar.specs.Derive.{Input, token, R, stmt, Start, End, close, G, step, ◌&◌, rule, S, none, yields, stepped, and_left, here}
 use Rattle.grammar.specs.Grammar.{body, tok, else_part, let_stmt, const_def, statement}
 use Rattle.grammar.proofs.Unique.{unique, same}
-use Rattle.cursor.specs.Entries.{input}
 use Rattle.cursor.specs.Read.{LIMIT, Attempt, READING, FAILED, Represents, reached, Result, matched, failed, exceeded, Reads, still, reads, begun, ending_with, Inside, inside, Tried, Ends, ends}
 use Rattle.cursor.specs.Steps.{rewound, joining}
 use Rattle.cursor.specs.declared.Cursor.{Cursor}

@@ -86,7 +86,7 @@ rounds : {x : Input} {g : G} {i : ℕ} {s t : S} → ((s t : S) → Derives body
 rounds f (no_more a) o = o
 rounds f (one_more {s = s} {t = t} a c) o = rounds f c (f s t a o)
 
-one_part : {x : Input} {r : R} {o : Out} (s : S) → Derives body x (rule r) (enter s) o → On (Single s.at) o
+one_part : {x : Input} {r : R} (s : S) {o : Out} → Derives body x (rule r) (enter s) o → On (Single s.at) o
 unfolding part
 one_part s (ruled {o = o} a) = on_leave (enter s) (λ t p. record { first = refl; parts = refl; mark = refl }) (any o)
   where

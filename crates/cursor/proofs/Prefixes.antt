@@ -2,14 +2,14 @@
 use mathlib.Core.Path.{◌≡◌, refl, sym, ap, subst, ◌∙◌}
 use mathlib.Core.Bool.{false}
 use mathlib.Core.List.{List}
-use Prim.Native.Nat.{ℕ, ◌+◌, ◌-◌, ◌/◌, ◌<◌, ◌≤◌, min}
+use Prim.Native.Nat.{ℕ, ◌+◌, ◌-◌, ◌/◌, ◌<◌, ◌≤◌}
 use native.Mathlib.Omega.{arith}
 use native.Mathlib.Decide.{dec_lt, ℕ_discrete}
 use lib.ListN.{length}
 use Rattle.tables.specs.Tables.{token_at}
 use Rattle.tables.specs.TokenKinds.{NOT, MINUS}
 use Rattle.grammar.specs.Kinds.{Unary}
-use Rattle.grammar.specs.Derive.{unary, close, first_token, last_part, step, ◌&◌, many, rule}
+use Rattle.grammar.specs.Derive.{unary, close, first_token, last_part, step, ◌&◌, many}
 use Rattle.grammar.specs.Grammar.{body, atom, postfix, op}
 use Rattle.cursor.specs.Read.{LIMIT, READING, DEEP, Reads, Puts, puts}
 use Rattle.cursor.specs.Steps.{Halted, was_halted, halts, Left, fresh_at, signed_at, Restarted, restarts, restarts_deep, Prefix, no_prefix, a_not, a_minus, Prefixes, Unwound, too_deep, advanced}

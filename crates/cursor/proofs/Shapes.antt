@@ -16,7 +16,7 @@ use Rattle.grammar.proofs.Progress.{sane?, sane_of}
 use Rattle.grammar.proofs.Whole.{solid, derives}
 use Rattle.grammar.proofs.Total.{Some, some}
 use Rattle.cursor.specs.Entries.{input}
-use Rattle.cursor.specs.Read.{Attempt, READING, FAILED, Represents, reached, Result, matched, failed, exceeded, Reads, still, reads}
+use Rattle.cursor.specs.Read.{Attempt, READING, FAILED, reached, Result, matched, failed, exceeded, Reads, still, reads}
 use Rattle.cursor.specs.Steps.{rewound, Agreed, agrees_not, agrees_else, agrees, shallow}
 use Rattle.cursor.specs.declared.Cursor.{Cursor}
 use Rattle.cursor.proofs.Attempts.{within_as, within_both, attempt_as, attempt_from, attempt_settled, attempt_and_not, attempt_and_then, attempt_or_else, attempt_both, attempt_step}
@@ -83,6 +83,7 @@ module _ {x : Input} where
   element_cases never d i m (or_left (and_right e t)) = inr (or_left (moved d e t))
   element_cases never d i m (or_right e (and_left (or_left (and_left t)))) = inl t
   element_cases never d i m (or_right e (and_left (or_left (and_right f t)))) = inr (or_right (after_none d e) (and_left (moved d f t)))
+  element_cases never d i m (or_right e (and_left (or_right _ t))) = elim t [ ]
   element_cases never d i m (or_right e (and_right (or_first (and_then f g)) t)) = inr (or_right (after_none d e) (and_right (rw (same (unique f d)) at g) t))
   element_cases {t = t} never d i m (or_right e (and_right (or_else f g) y)) = absurd (never t (after_none d f))
 

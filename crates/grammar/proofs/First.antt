@@ -170,7 +170,7 @@ module _ {x : Input} where
       twice true t = tt
       twice false t = t
 
-  idly : {g : G} {i j n : ℕ} {s : S} → Takes body x nests i j g n s → Absent (next_kind x s) (firsts g) → ⊥
+  idly : {i j : ℕ} {g : G} {n : ℕ} {s : S} → Takes body x nests i j g n s → Absent (next_kind x s) (firsts g) → ⊥
   idly (here f _ _) m = m.0 f
   idly (and_left {g = g} t) m = idly t (absent_l _ (firsts g) _ m)
   idly (and_right {g = g} {h = h} d t) m = idly t (after x (empties g) (firsts g) (firsts h) m (idle d (absent_l _ (firsts g) _ m)))

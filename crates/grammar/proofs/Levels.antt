@@ -108,16 +108,19 @@ joined {v = v} g m d (grown b f e p) =
       from = rw (p, g.parts, g.from);
     }
 
-rounds : {x : Input} {i : ℕ} {ns : List Node} {t u : S} (n : ℕ) → Going x n i ns t → Derives body x (many (link n)) t (got u) → Going x n i ns u
+round : {x : Input} {n i : ℕ} {ns : List Node} {t w : S} → Going x n i ns t → Derives body x (link n) t (got w) → Going x n i ns w
 unfolding yields
-rounds n g (no_more a) = g
-rounds {x} {i} {ns} n g (one_more (and_then p (and_then q e)) c) =
+round {x} {n} {i} {ns} g (and_then p (and_then q e)) =
     let (v, m, f) = is_operator n p in
-    rounds n (subst (Going x n i ns) (same (unique stepped e)) (joined g m (moved (sym f) q) (on_of (one_tree (moved (sym f) q))))) c
+    subst (Going x n i ns) (same (unique stepped e)) (joined g m (moved (sym f) q) (on_of (one_tree (moved (sym f) q))))
+
+rounds : {x : Input} {g : G} {t u : S} (P : S → Type 0) → ((s w : S) → P s → Derives body x g s (got w) → P w) → P t → Derives body x (many g) t (got u) → P u
+rounds P f p (no_more a) = p
+rounds P f p (one_more a c) = rounds P f (f _ _ p a) c
 
 inside : {x : Input} {u : S} (n : ℕ) (s : S) → Derives body x (body (level (suc n))) (enter s) (got u) → Going x n s.at s.nodes u
 unfolding body
-inside n s (and_then a c) = rounds n (started s a (on_of (one_tree a))) c
+inside {x} n s (and_then a c) = rounds (Going x n s.at s.nodes) (λ t w. round) (started s a (on_of (one_tree a))) c
 
 inner : {x : Input} {r : R} {s : S} {o : Out} (t : S) → Derives body x (rule r) s o → o ≡ got t → (u : S) × Derives body x (body r) (enter s) (got u) × (u.at ≡ t.at) × (u.nodes ≡ t.nodes)
 unfolding leave

@@ -6,7 +6,7 @@ use mathlib.Core.Bool.{Bool, true, false}
 use native.Mathlib.Omega.{arith}
 use lib.Dec.{eqb, ltb}
 use borrow.Author.Tests.{eqb-true, ltb-true, ltb-false}
-use Rattle.grammar.specs.Derive.{Input, token, R, Act, Step, take, close, tick, alone, done, G, step, ◌&◌, ◌or◌, many, both, rule, S, Out, next, yields, begin}
+use Rattle.grammar.specs.Derive.{Input, token, R, Act, Step, take, close, tick, alone, done, G, step, both, S, Out, next, yields, begin}
 use Rattle.grammar.specs.Derive.{Derives, stepped, and_not, and_then, or_first, or_else, no_more, one_more, agreed, ruled}
 use Rattle.grammar.specs.Derive.{Takes, here, and_left, and_right, or_left, or_right, now, later, both_first, inside}
 use Rattle.grammar.specs.Grammar.{body, nests, file, Stops}
