@@ -249,7 +249,7 @@ class Reader:
         elif term is None and goal == "returns" and self.idle: term = "ends_by refl (idle if1) ended_with" if self.fn.relation == "Ends" else self.own("idle if1")
         elif term is None and "round" in self.recipe:
             if goal == "loop-init": term = self.held("listing_begin" if "keeps" in self.recipe else "rounds_begin")
-            elif goal == "loop-smaller": term = f"further 0 0 refl TEST ({self.chain(names[:names.index('loop')])[0]}) tt (omega arith)"
+            elif goal.startswith("loop-smaller"): term = f"further 0 0 refl TEST ({self.chain(names[:names.index('loop')])[0]}) tt (omega arith)"
             elif goal == "loop-preserved": term = self.held("rounds_next LOOP ROUND OUT KEPT")
         if term is None: return ""
         if goal.startswith("returns") and goal in self.recipe: term = self.own(term)
@@ -261,10 +261,10 @@ class Reader:
         back = next((k for k in names if re.match(r"rewind\d*$", k)), None)
         if back: term = term.replace("BACK", back)
         if "KEPT" in term:
-            kept = [f"c.{self.lts.steps[k]}.auto.nodes" for k in names if self.info(k) and "nodes" in self.info(k).params]
-            if "loop" in names: kept.append("loop.kept" if self.fn.relation in TEXTED else "(loop []).kept")
+            kept = [f"c.{self.lts.steps[k]}.auto.nodes" for k in names[:names.index("loop")] if self.info(k) and "nodes" in self.info(k).params]
+            kept.append("loop.kept" if self.fn.relation in TEXTED else "(loop []).kept")
             term = term.replace("KEPTONE", kept[0]).replace("KEPT", "(" + " ∙ ".join(kept) + ")")
-        wraps = not callee and goal != "loop-smaller"
+        wraps = not callee and not goal.startswith("loop-smaller")
         def fact(m):
             raw, k = m.group(1), m.group(2)
             if k not in facts: return m.group(0)

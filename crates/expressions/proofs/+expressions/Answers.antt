@@ -302,6 +302,9 @@ pub postfixed-returns-then-q-eq-FAILED : goal.postfixed-returns-then-q-eq-FAILED
 unfolding body
 postfixed-returns-then-q-eq-FAILED t c = leading_end c.loop-p.invariant c.if-first.false c.loop-p-test.true c.postfix_op-q.ensures c.if-q-eq-FAILED.true c.rewind.ensures
 
+pub postfixed-loop-p-smaller : goal.postfixed-loop-p-smaller
+postfixed-loop-p-smaller t c = further 0 0 refl c.loop-p-test.true (on c.postfix_op-q.ensures) tt (omega arith)
+
 pub postfixed-loop-p-preserved : goal.postfixed-loop-p-preserved
 postfixed-loop-p-preserved t c = leading_next c.loop-p.invariant c.if-first.false c.postfix_op-q.ensures c.if-q-eq-FAILED.false c.postfix_op-q.auto.nodes
 

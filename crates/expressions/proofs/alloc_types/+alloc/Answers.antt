@@ -50,7 +50,7 @@ pub alloc_entries-loop-p-smaller : goal.alloc_entries-loop-p-smaller
 alloc_entries-loop-p-smaller t c = further 0 0 refl c.loop-p-test.true (on_step c.take-q.ensures and_on on c.alloc_type_expr-q.ensures) tt (omega arith)
 
 pub alloc_entries-loop-p-preserved : goal.alloc_entries-loop-p-preserved
-alloc_entries-loop-p-preserved t c = rounds_next c.loop-p.invariant ((one_step c.take-q.ensures) then c.alloc_type_expr-q.ensures) c.if-q-eq-FAILED.false (c.alloc_type_expr-q.auto.nodes ∙ c.alloc_type_expr-p.auto.nodes ∙ c.loop-p.invariant.kept)
+alloc_entries-loop-p-preserved t c = rounds_next c.loop-p.invariant ((one_step c.take-q.ensures) then c.alloc_type_expr-q.ensures) c.if-q-eq-FAILED.false (c.alloc_type_expr-q.auto.nodes ∙ c.loop-p.invariant.kept)
 
 pub alloc_entries-returns : goal.alloc_entries-returns
 unfolding body

@@ -80,7 +80,7 @@ pub type_entries-loop-p-smaller : goal.type_entries-loop-p-smaller
 type_entries-loop-p-smaller t c = further 0 0 refl c.loop-p-test.true (on_step c.take-q.ensures and_on on (by_part G.type (record { upto = omega (arith, c.deeper-in-loop-p.ensures) }) c.if-q-ne-READING.false c.type_at-t.ensures c.join-q.ensures)) tt (omega arith)
 
 pub type_entries-loop-p-preserved : goal.type_entries-loop-p-preserved
-type_entries-loop-p-preserved t c = rounds_next c.loop-p.invariant ((one_step c.take-q.ensures) then (by_part G.type (record { upto = omega (arith, c.deeper-in-loop-p.ensures) }) c.if-q-ne-READING.false c.type_at-t.ensures c.join-q.ensures)) c.if-q-eq-FAILED-2.false (c.type_at-t.auto.nodes ∙ c.type_at-q.auto.nodes ∙ c.loop-p.invariant.kept)
+type_entries-loop-p-preserved t c = rounds_next c.loop-p.invariant ((one_step c.take-q.ensures) then (by_part G.type (record { upto = omega (arith, c.deeper-in-loop-p.ensures) }) c.if-q-ne-READING.false c.type_at-t.ensures c.join-q.ensures)) c.if-q-eq-FAILED-2.false (c.type_at-t.auto.nodes ∙ c.loop-p.invariant.kept)
 
 pub type_entries-returns : goal.type_entries-returns
 unfolding body
