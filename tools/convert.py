@@ -38,26 +38,77 @@ def args_of(text):
     return parts
 
 
+def same(a, b):
+    return a.replace("-", "_") == b.replace("-", "_") or re.sub(r"[-_]", "", a).lower() == re.sub(r"[-_]", "", b).lower()
+
+
+def aligned(answers, fn):
+    """The answers of today's goals: those of goals that the check settles by itself go, which were searched for."""
+    surplus = len(answers) - len(fn.needs)
+    if surplus <= 0:
+        return answers
+    best = {}
+
+    def go(i, k, left):
+        if i == len(answers):
+            return (0, []) if k == len(fn.needs) and left == 0 else None
+        if (i, k, left) in best:
+            return best[i, k, left]
+        found = None
+        if k < len(fn.needs):
+            fits = ("-requires" in fn.needs[k][1]) == bool(re.match(r"λ c κs\.", answers[i]))
+            rest = go(i + 1, k + 1, left)
+            if rest is not None:
+                found = (rest[0] + (0 if fits else 1), [answers[i]] + rest[1])
+        if left and re.match(r"λ c\.\s*(search rules|search|tt)\s*$", answers[i]):
+            rest = go(i + 1, k, left - 1)
+            if rest is not None and (found is None or rest[0] < found[0]):
+                found = rest
+        best[i, k, left] = found
+        return found
+
+    found = go(0, 0, surplus)
+    return found[1] if found else answers
+
+
 class Fn:
     def __init__(self, d):
         self.places = {p[0]: p for p in d["places"]}
         self.today = {p[0]: n for p, n in zip(d["places"], d["places_by_name"])}
-        self.needs, self.at, self.loops, self.changed = d["needs"], d["asked_at"], d["loops"], d["changed"]
+        self.needs, self.at, self.loops, self.changed, self.settled = d["needs"], d["asked_at"], d["loops"], d["changed"], d["settled"]
+        # of what a type says, the variable for each step of the old form
+        self.typed = {p[0]: {step: v for v, step in t} for p, t in zip(d["places"], d["typed"])}
 
-    def path(self, place, words, var):
-        """The path `c.before.X.y` at a place, with today's names."""
-        words = list(words)
+    def above(self, place):
+        """A place and those before it, nearest first."""
+        found = []
+        while place in self.places:
+            found.append(place)
+            place = self.places[place][1]
+        return found
+
+    def path(self, place, words, var, need):
+        """The path `c.before.X.y` at a place, with today's names: the step X nearest to where the path says, as places were added and dropped."""
+        words, depth = list(words), 0
+        chain = self.above(need)
+        at = chain.index(place) if place in chain else 0
         while words and words[0] == "before":
             words.pop(0)
-            place = self.places[place][1] if place in self.places else None
-            if place is None:
-                return None
+            depth += 1
+        at += depth
         if not words:
-            return place, var
-        if place in self.places:
+            return chain[min(at, len(chain) - 1)], var
+        steps = [i for i, p in enumerate(chain) if same(words[0], self.places[p][2][0])]
+        if steps and words[0] not in ("args", "requires", "ranges", "lifetimes", "well_formed", "type_inv"):
+            place = chain[min(steps, key=lambda i: (abs(i - at), i))]
             old, new = self.places[place][2]
-            if words[0] == old or words[0].replace("-", "_") == old.replace("-", "_"):
-                words[0] = new
+            if len(words) > 1 and words[1] == "given" and old in self.typed[need]:
+                return None, ".".join([var, "type_inv", self.typed[need][old]] + words[2:])
+            for a, b in self.places[place][4]:
+                if len(words) > 1 and words[1] == a:
+                    words[1] = b
+                    break
+            words[0] = new
         return None, ".".join([var] + words)
 
 
@@ -67,13 +118,8 @@ def turn(body, fn, place):
 
     def step(m):
         var, rest = m.group(1), m.group(2)
-        got = fn.path(places[var], [w for w in rest.split(".") if w], "c")
-        if got is None:
-            return m.group(0) + "?old"
-        place, path = got
-        if place is not None:
-            return "c"
-        return path
+        there, path = fn.path(places[var], [w for w in rest.split(".") if w], "c", place)
+        return "c" if there is not None else path
 
     out = ""
     i = 0
@@ -81,15 +127,15 @@ def turn(body, fn, place):
     while True:
         m = re.match(r"(\s*)let (\w[\w-]*) = (\w[\w-]*)((?:\.before)+) in\b", body[i:])
         if m and m.group(3) in places:
-            got = fn.path(places[m.group(3)], [w for w in m.group(4).split(".") if w], "c")
+            got = fn.path(places[m.group(3)], [w for w in m.group(4).split(".") if w], "c", place)
             if got and got[0]:
                 places[m.group(2)] = got[0]
                 i += m.end()
                 continue
         m = re.match(r"(\s*)let (\w[\w-]*) = (\w[\w-]*)((?:\.[^\s.(){}]+)+) in\b", body[i:])
         if m and m.group(3) in places:
-            got = fn.path(places[m.group(3)], [w for w in m.group(4).split(".") if w], "c")
-            out += m.group(1) + f"let {m.group(2)} = {got[1] if got else '?old'} in"
+            got = fn.path(places[m.group(3)], [w for w in m.group(4).split(".") if w], "c", place)
+            out += m.group(1) + f"let {m.group(2)} = {got[1]} in"
             i += m.end()
             continue
         break
@@ -98,6 +144,19 @@ def turn(body, fn, place):
     rest = re.sub(r"(?<![\w.·-])(%s)((?:\.[^\s.(){},;]+)+)" % alias, step, rest)
     rest = re.sub(r"(?<![\w.·-])(%s)(?![\w.·-])" % "|".join(re.escape(p) for p in places if p != "c"), "c", rest) if len(places) > 1 else rest
     return (out + rest).strip()
+
+
+def bound(kind, loop, params, term, variables, changed, said):
+    """An invariant or a measure: first the variables as the loop began (a changed one's value then), in order, and then the changed ones' values now."""
+    now = [v for v, ch in zip(variables, changed) if ch]
+    if len(params) == len(variables) + len(now):
+        values = ["l.initial." + v if ch else "l." + v for v, ch in zip(variables, changed)] + ["l." + v for v in now]
+    else:
+        said.append(f"loop {loop}: {len(params)} parameters, {variables} {changed}")
+        values = params
+    for p, v in sorted(zip(params, values), key=lambda x: -len(x[0])):
+        term = re.sub(r"(?<![\w.·\0-])%s(?![\w·₀-])" % re.escape(p), "\0" + v, term)
+    return f"abbrev pub {kind}-{loop} : goal.{kind}-{loop}\n{kind}-{loop} l = {term}".replace("\0", "")
 
 
 def convert(folder, fn, text, module):
@@ -130,17 +189,15 @@ def convert(folder, fn, text, module):
             continue
         k = found[0]
         (old, new), variables = fn.loops[k]
-        changed = fn.changed[k]
-        # first the variables as the loop began (a changed one's value then), in order, and then the changed ones' values now
-        now = [v for v, ch in zip(variables, changed) if ch]
-        if len(params) == len(variables) + len(now):
-            values = ["l.initial." + v if ch else "l." + v for v, ch in zip(variables, changed)] + ["l." + v for v in now]
-        else:
-            said.append(f"loop {loop}: {len(params)} parameters, {variables} {changed}")
-            values = params
-        for p, v in sorted(zip(params, values), key=lambda x: -len(x[0])):
-            term = re.sub(r"(?<![\w.·-])%s(?![\w·₀-])" % re.escape(p), "\0" + v, term)
-        inv.append(f"abbrev pub {kind}-{new} : goal.{kind}-{new}\n{kind}-{new} l = {term}".replace("\0", ""))
+        inv.append(bound(kind, new, params, term, variables, fn.changed[k], said))
+    # invariants and measures that stand in place
+    inline = [p for p in parts if re.match(r"λ (?!c\b)", p)]
+    if len(inline) == 2 * len(fn.loops):
+        n = len(fn.loops)
+        for i, p in enumerate(inline):
+            (old, new), variables = fn.loops[i % n]
+            m = re.match(r"λ ([^.]*)\.\s*(.*)", p, re.S)
+            inv.append(bound("invariant" if i < n else "decreases", new, m.group(1).split(), m.group(2), variables, fn.changed[i % n], said))
     # helpers at a place, and those that are an answer
     named = {}
     for i, h in enumerate(helpers):
@@ -154,7 +211,7 @@ def convert(folder, fn, text, module):
         if m:
             named[m.group(1)] = (m.group(2), h)
         helpers[i] = h
-    answers = [p for p in parts if re.match(r"λ c\b", p) or p in named]
+    answers = aligned([p for p in parts if re.match(r"λ c\b", p) or p in named], fn)
     if len(answers) != len(fn.needs):
         said.append(f"{len(answers)} answers, {len(fn.needs)} goals")
     out = []
