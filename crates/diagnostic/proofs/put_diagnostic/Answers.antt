@@ -5,10 +5,8 @@ use native.Mathlib.Omega.{arith}
 use borrow.Author.Rules.{rules}
 use Rattle.tables.specs.Tables.{Diagnostic, le16, le64, encode_diagnostic, stored}
 use Rattle.tables.proofs.Laws.{eight}
-use Rattle.diagnostic.proofs.put_diagnostic.Statement.{statement}
-use Rattle.diagnostic.proofs.put_diagnostic.Tie as tie
+use Rattle.diagnostic.proofs.put_diagnostic.Goals as goal
 
--- its word has the fields
 stored_diagnostic : (d : Diagnostic) (t : List ℕ) (i : ℕ) {t' : List ℕ} → d.start < 65536 → d.end < 65536 → d.reason < 256
     → t' ≡ stored 8 t i (le64 (d.start + d.end * 0x10000 + d.reason * 0x100000000)) → t' ≡ stored 8 t i (encode_diagnostic d)
 unfolding encode_diagnostic le16 le64
@@ -17,14 +15,5 @@ stored_diagnostic d t i p q r e =
     ∙ ap (λ (b : List ℕ). stored 8 t i b)
     (eight (omega arith) (omega arith) (omega arith) (omega arith) (omega arith) (omega arith) (omega arith) (omega arith))
 
-pub put_diagnostic_spec : {M : Type 1} → statement M
-put_diagnostic_spec =
-    tie.close
-    (tie.spec
-    (λ c. search rules)
-    (λ c. search rules)
-    (λ c. search rules)
-    (λ c. search rules)
-    (λ c κs. search rules)
-    (λ c. search rules)
-    (λ c. search (rules, stored_diagnostic)))
+pub returns : goal.returns
+returns c = search (rules, stored_diagnostic)
