@@ -81,7 +81,7 @@ class Places:
     def fact(self, step):
         """the path of what a step ensures, says or keeps"""
         name = step.split(".")[0]
-        says = step.split(".")[1] if "." in step else "invariant" if name.startswith("loop") else "ensures"
+        says = step.split(".")[1] if "." in step else "invariant" if re.fullmatch(r"loop\d*", name) else "ensures"
         return f"c.{self.steps[name]}.{says}"
 
 
@@ -311,7 +311,7 @@ def file(what, path, kind, body):
     s = f"-- {what} Assumes nothing.\nuse Rattle.{STEPS}.proofs.Reading." + "{" + ", ".join(names) + "}\n"
     if "begun " in body: s += f"use Rattle.{STEPS}.specs.Read.{{begun}}\n"
     for a, m in (("G", "Derive"), ("L", "Grammar")):
-        if f"{a}." in body: s += f"use Rattle.grammar.specs.{m} as {a}\n"
+        if re.search(rf"(?<![\w.-]){a}\.", body): s += f"use Rattle.grammar.specs.{m} as {a}\n"
     return s + f"use {path}.{kind} as goal\n" + body
 
 def files(readers, name, what):

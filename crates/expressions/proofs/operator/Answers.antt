@@ -1,6 +1,5 @@
 -- `operator` meets its contract. Assumes nothing.
 use Rattle.cursor.proofs.Reading.{body, steps, one_step, only, pass, at_level, above_level}
-use Rattle.grammar.specs.Grammar as L
 use Rattle.expressions.proofs.operator.Goals as goal
 
 pub returns-then-k-eq-MUL : goal.returns-then-k-eq-MUL

@@ -1,6 +1,5 @@
 -- `repeat_end` meets its contract. Assumes nothing.
 use Rattle.cursor.proofs.Reading.{body, puts, idle, one_put, one_step, ◌then◌, both_not, both_read, one, two}
-use Rattle.grammar.specs.Derive as G
 use Rattle.expressions.proofs.repeat_end.Goals as goal
 
 pub returns-then-e-ne-READING : goal.returns-then-e-ne-READING

@@ -136,7 +136,7 @@ stmt_at-loop_stmt-requires t c = (lower 18 19 c.decreases refl (at_begin c.begin
 
 pub stmt_at-returns-then-k-eq-LOOP : goal.stmt_at-returns-then-k-eq-LOOP
 unfolding body
-stmt_at-returns-then-k-eq-LOOP t c = ends_as c.begin-start.ensures (λ e y. (pass c.peek-k.ensures (c.if-k-eq-L_BRACE.false, tt) tt (pass c.peek-k.ensures (c.if-k-eq-IF.false, tt) tt (only c.peek-k.ensures c.if-k-eq-LOOP.true tt (y))))) c.loop_stmt.invariant
+stmt_at-returns-then-k-eq-LOOP t c = ends_as c.begin-start.ensures (λ e y. (pass c.peek-k.ensures (c.if-k-eq-L_BRACE.false, tt) tt (pass c.peek-k.ensures (c.if-k-eq-IF.false, tt) tt (only c.peek-k.ensures c.if-k-eq-LOOP.true tt (y))))) c.loop_stmt.ensures
 
 pub stmt_at-while_stmt-requires : goal.stmt_at-while_stmt-requires
 stmt_at-while_stmt-requires t c = (lower 18 19 c.decreases refl (at_begin c.begin-start.ensures) (omega arith), tt)

@@ -1,6 +1,5 @@
 -- `array_size` meets its contract. Assumes nothing.
 use Rattle.cursor.proofs.Reading.{body, one_put, both_not, both_read, one}
-use Rattle.grammar.specs.Derive as G
 use Rattle.statements.proofs.types.array_size.Goals as goal
 
 pub returns-then-e-ne-READING : goal.returns-then-e-ne-READING
