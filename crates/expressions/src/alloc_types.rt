@@ -7,7 +7,7 @@ use cursor::{Cursor, FAILED, Part, READING, deeper, type_name};
 use grammar::node_kind;
 use tables::token_type::{COMMA, IDENTIFIER, L_PAREN, MUL, R_PAREN};
 
-#[cycle(alloc_at_alloc_base_alloc_entries_alloc_type_expr)]
+#[cycle(alloc)]
 pub fn alloc_type_expr(text: &[u8], tokens: &[u8], nodes: &mut [u8], cursor: Cursor) -> Cursor
     ensures { Reads (rule alloc) text.now tokens.now cursor nodes.old result nodes.new }
 {
@@ -27,7 +27,7 @@ pub fn alloc_type_expr(text: &[u8], tokens: &[u8], nodes: &mut [u8], cursor: Cur
 }
 
 // The inside of a type after `new`.
-#[cycle(alloc_at_alloc_base_alloc_entries_alloc_type_expr)]
+#[cycle(alloc)]
 fn alloc_at(
     text: &[u8],
     tokens: &[u8],
@@ -45,7 +45,7 @@ fn alloc_at(
     p.ended()
 }
 
-#[cycle(alloc_at_alloc_base_alloc_entries_alloc_type_expr)]
+#[cycle(alloc)]
 fn alloc_base(text: &[u8], tokens: &[u8], nodes: &mut [u8], cursor: Cursor) -> Cursor
     ensures { Reads (named_type or tuple_type alloc) text.now tokens.now cursor nodes.old result nodes.new }
 {
@@ -62,7 +62,7 @@ fn alloc_base(text: &[u8], tokens: &[u8], nodes: &mut [u8], cursor: Cursor) -> C
     tuple_end(tokens, nodes, p)
 }
 
-#[cycle(alloc_at_alloc_base_alloc_entries_alloc_type_expr)]
+#[cycle(alloc)]
 fn alloc_entries(text: &[u8], tokens: &[u8], nodes: &mut [u8], cursor: Cursor) -> Cursor
     ensures { Reads (entries (rule alloc)) text.now tokens.now cursor nodes.old result nodes.new }
 {

@@ -18,7 +18,7 @@ use tables::token_type::{
     NEW, NOT, R_BRACE, R_BRACK, R_PAREN, SEMICOLON, TRUE,
 };
 
-#[cycle(arguments_array_atom_chain_expr_exprs_field_level_level_at_new_expr_paren_or_tuple_postfix_op_postfixed_struct_literal_struct_literal_fields_unary_unary_at)]
+#[cycle(expressions)]
 pub fn expr(text: &[u8], tokens: &[u8], nodes: &mut [u8], cursor: Cursor) -> Cursor
     ensures { Reads (rule expr) text.now tokens.now cursor nodes.old result nodes.new }
 {
@@ -39,7 +39,7 @@ pub fn expr(text: &[u8], tokens: &[u8], nodes: &mut [u8], cursor: Cursor) -> Cur
 }
 
 // The nth binary level, tightest first.
-#[cycle(arguments_array_atom_chain_expr_exprs_field_level_level_at_new_expr_paren_or_tuple_postfix_op_postfixed_struct_literal_struct_literal_fields_unary_unary_at)]
+#[cycle(expressions)]
 pub(crate) fn level(text: &[u8], tokens: &[u8], nodes: &mut [u8], cursor: Cursor, n: u8) -> Cursor
     ensures { Reads (rule (level n)) text.now tokens.now cursor nodes.old result nodes.new }
 {
@@ -60,7 +60,7 @@ pub(crate) fn level(text: &[u8], tokens: &[u8], nodes: &mut [u8], cursor: Cursor
 }
 
 // Over casts each level goes on from what the level below has read. The binary operators are the kinds from AND_AND to MOD; where none stands, no level reads on.
-#[cycle(arguments_array_atom_chain_expr_exprs_field_level_level_at_new_expr_paren_or_tuple_postfix_op_postfixed_struct_literal_struct_literal_fields_unary_unary_at)]
+#[cycle(expressions)]
 pub(crate) fn level_at(
     text: &[u8],
     tokens: &[u8],
@@ -93,7 +93,7 @@ pub(crate) fn level_at(
 }
 
 // Operators of a level, each with all that stands left of it.
-#[cycle(arguments_array_atom_chain_expr_exprs_field_level_level_at_new_expr_paren_or_tuple_postfix_op_postfixed_struct_literal_struct_literal_fields_unary_unary_at)]
+#[cycle(expressions)]
 fn chain(text: &[u8], tokens: &[u8], nodes: &mut [u8], cursor: Cursor, n: u8) -> Cursor
     ensures { Reads (many (link n)) text.now tokens.now cursor nodes.old result nodes.new }
 {
@@ -229,7 +229,7 @@ fn unwind(tokens: &[u8], nodes: &mut [u8], start: Cursor, end: usize, operand: C
     p
 }
 
-#[cycle(arguments_array_atom_chain_expr_exprs_field_level_level_at_new_expr_paren_or_tuple_postfix_op_postfixed_struct_literal_struct_literal_fields_unary_unary_at)]
+#[cycle(expressions)]
 fn unary(text: &[u8], tokens: &[u8], nodes: &mut [u8], cursor: Cursor) -> Cursor
     ensures { Reads (rule unary) text.now tokens.now cursor nodes.old result nodes.new }
 {
@@ -278,7 +278,7 @@ fn plain_operand(first: u8, second: u8) -> u8
 }
 
 // Prefixes by a loop: the operand is read past them all.
-#[cycle(arguments_array_atom_chain_expr_exprs_field_level_level_at_new_expr_paren_or_tuple_postfix_op_postfixed_struct_literal_struct_literal_fields_unary_unary_at)]
+#[cycle(expressions)]
 pub(crate) fn unary_at(
     text: &[u8],
     tokens: &[u8],
@@ -302,7 +302,7 @@ pub(crate) fn unary_at(
 }
 
 // The atom, then postfixes. The first round of the loop reads the atom: what stands in a loop is compiled for speed.
-#[cycle(arguments_array_atom_chain_expr_exprs_field_level_level_at_new_expr_paren_or_tuple_postfix_op_postfixed_struct_literal_struct_literal_fields_unary_unary_at)]
+#[cycle(expressions)]
 fn postfixed(text: &[u8], tokens: &[u8], nodes: &mut [u8], cursor: Cursor) -> Cursor
     ensures { Reads (atom & many postfix) text.now tokens.now cursor nodes.old result nodes.new }
 {
@@ -326,7 +326,7 @@ fn postfixed(text: &[u8], tokens: &[u8], nodes: &mut [u8], cursor: Cursor) -> Cu
     p
 }
 
-#[cycle(arguments_array_atom_chain_expr_exprs_field_level_level_at_new_expr_paren_or_tuple_postfix_op_postfixed_struct_literal_struct_literal_fields_unary_unary_at)]
+#[cycle(expressions)]
 fn postfix_op(text: &[u8], tokens: &[u8], nodes: &mut [u8], cursor: Cursor) -> Cursor
     ensures { Reads postfix text.now tokens.now cursor nodes.old result nodes.new }
 {
@@ -360,7 +360,7 @@ fn postfix_op(text: &[u8], tokens: &[u8], nodes: &mut [u8], cursor: Cursor) -> C
     p.operands(nodes, node_kind::INDEX)
 }
 
-#[cycle(arguments_array_atom_chain_expr_exprs_field_level_level_at_new_expr_paren_or_tuple_postfix_op_postfixed_struct_literal_struct_literal_fields_unary_unary_at)]
+#[cycle(expressions)]
 fn arguments(text: &[u8], tokens: &[u8], nodes: &mut [u8], cursor: Cursor) -> Cursor
     ensures { Reads (list (rule expr)) text.now tokens.now cursor nodes.old result nodes.new }
 {
@@ -386,7 +386,7 @@ fn arguments(text: &[u8], tokens: &[u8], nodes: &mut [u8], cursor: Cursor) -> Cu
     p
 }
 
-#[cycle(arguments_array_atom_chain_expr_exprs_field_level_level_at_new_expr_paren_or_tuple_postfix_op_postfixed_struct_literal_struct_literal_fields_unary_unary_at)]
+#[cycle(expressions)]
 fn exprs(text: &[u8], tokens: &[u8], nodes: &mut [u8], cursor: Cursor) -> Cursor
     ensures { Reads (many (another (rule expr))) text.now tokens.now cursor nodes.old result nodes.new }
 {
@@ -406,7 +406,7 @@ fn exprs(text: &[u8], tokens: &[u8], nodes: &mut [u8], cursor: Cursor) -> Cursor
     p
 }
 
-#[cycle(arguments_array_atom_chain_expr_exprs_field_level_level_at_new_expr_paren_or_tuple_postfix_op_postfixed_struct_literal_struct_literal_fields_unary_unary_at)]
+#[cycle(expressions)]
 fn atom(text: &[u8], tokens: &[u8], nodes: &mut [u8], cursor: Cursor) -> Cursor
     ensures { Reads atom text.now tokens.now cursor nodes.old result nodes.new }
 {
@@ -440,7 +440,7 @@ fn atom(text: &[u8], tokens: &[u8], nodes: &mut [u8], cursor: Cursor) -> Cursor
     paren_or_tuple(text, tokens, nodes, cursor)
 }
 
-#[cycle(arguments_array_atom_chain_expr_exprs_field_level_level_at_new_expr_paren_or_tuple_postfix_op_postfixed_struct_literal_struct_literal_fields_unary_unary_at)]
+#[cycle(expressions)]
 fn new_expr(text: &[u8], tokens: &[u8], nodes: &mut [u8], cursor: Cursor) -> Cursor
     ensures { Reads new_expr text.now tokens.now cursor nodes.old result nodes.new }
 {
@@ -455,7 +455,7 @@ fn new_expr(text: &[u8], tokens: &[u8], nodes: &mut [u8], cursor: Cursor) -> Cur
     p.whole(tokens, nodes, node_kind::NEW)
 }
 
-#[cycle(arguments_array_atom_chain_expr_exprs_field_level_level_at_new_expr_paren_or_tuple_postfix_op_postfixed_struct_literal_struct_literal_fields_unary_unary_at)]
+#[cycle(expressions)]
 fn struct_literal(text: &[u8], tokens: &[u8], nodes: &mut [u8], cursor: Cursor) -> Cursor
     ensures { Reads struct_literal text.now tokens.now cursor nodes.old result nodes.new }
 {
@@ -472,7 +472,7 @@ fn struct_literal(text: &[u8], tokens: &[u8], nodes: &mut [u8], cursor: Cursor) 
     p.whole(tokens, nodes, node_kind::STRUCT_LITERAL)
 }
 
-#[cycle(arguments_array_atom_chain_expr_exprs_field_level_level_at_new_expr_paren_or_tuple_postfix_op_postfixed_struct_literal_struct_literal_fields_unary_unary_at)]
+#[cycle(expressions)]
 fn struct_literal_fields(text: &[u8], tokens: &[u8], nodes: &mut [u8], cursor: Cursor) -> Cursor
     ensures { Reads (fields (rule expr)) text.now tokens.now cursor nodes.old result nodes.new }
 {
@@ -494,7 +494,7 @@ fn struct_literal_fields(text: &[u8], tokens: &[u8], nodes: &mut [u8], cursor: C
     p
 }
 
-#[cycle(arguments_array_atom_chain_expr_exprs_field_level_level_at_new_expr_paren_or_tuple_postfix_op_postfixed_struct_literal_struct_literal_fields_unary_unary_at)]
+#[cycle(expressions)]
 fn field(text: &[u8], tokens: &[u8], nodes: &mut [u8], cursor: Cursor) -> Cursor
     ensures { Reads (field (rule expr)) text.now tokens.now cursor nodes.old result nodes.new }
 {
@@ -507,7 +507,7 @@ fn field(text: &[u8], tokens: &[u8], nodes: &mut [u8], cursor: Cursor) -> Cursor
 }
 
 // The first element is read once: `;` then tells a repeat from a literal.
-#[cycle(arguments_array_atom_chain_expr_exprs_field_level_level_at_new_expr_paren_or_tuple_postfix_op_postfixed_struct_literal_struct_literal_fields_unary_unary_at)]
+#[cycle(expressions)]
 fn array(text: &[u8], tokens: &[u8], nodes: &mut [u8], cursor: Cursor) -> Cursor
     ensures { Reads (array_repeat or array_literal) text.now tokens.now cursor nodes.old result nodes.new }
 {
@@ -548,7 +548,7 @@ fn repeat_end(tokens: &[u8], nodes: &mut [u8], cursor: Cursor) -> Cursor
     p.whole(tokens, nodes, node_kind::ARRAY_REPEAT)
 }
 
-#[cycle(arguments_array_atom_chain_expr_exprs_field_level_level_at_new_expr_paren_or_tuple_postfix_op_postfixed_struct_literal_struct_literal_fields_unary_unary_at)]
+#[cycle(expressions)]
 fn paren_or_tuple(text: &[u8], tokens: &[u8], nodes: &mut [u8], cursor: Cursor) -> Cursor
     ensures { Reads paren_or_tuple text.now tokens.now cursor nodes.old result nodes.new }
 {

@@ -7,7 +7,7 @@ use cursor::{Cursor, FAILED, Part, READING, deeper};
 use grammar::node_kind;
 use tables::token_type::{COMMA, L_PAREN, R_PAREN};
 
-#[cycle(pattern_pattern_at_patterns)]
+#[cycle(patterns)]
 pub fn pattern(text: &[u8], tokens: &[u8], nodes: &mut [u8], cursor: Cursor) -> Cursor
     ensures { Reads (rule pattern) text.now tokens.now cursor nodes.old result nodes.new }
 {
@@ -27,7 +27,7 @@ pub fn pattern(text: &[u8], tokens: &[u8], nodes: &mut [u8], cursor: Cursor) -> 
 }
 
 // The inside of a pattern.
-#[cycle(pattern_pattern_at_patterns)]
+#[cycle(patterns)]
 fn pattern_at(
     text: &[u8],
     tokens: &[u8],
@@ -67,7 +67,7 @@ fn pattern_at(
     p.ended()
 }
 
-#[cycle(pattern_pattern_at_patterns)]
+#[cycle(patterns)]
 fn patterns(text: &[u8], tokens: &[u8], nodes: &mut [u8], cursor: Cursor) -> Cursor
     ensures { Reads (many (another (rule pattern))) text.now tokens.now cursor nodes.old result nodes.new }
 {

@@ -20,7 +20,7 @@ use tables::token_type::{
     R_PAREN, RETURN, SEMICOLON, WHILE,
 };
 
-#[cycle(block_branches_for_init_for_stmt_if_stmt_last_stmt_loop_stmt_stmt_stmt_at_stmts_while_stmt)]
+#[cycle(statements)]
 fn stmt(text: &[u8], tokens: &[u8], nodes: &mut [u8], cursor: Cursor) -> Cursor
     ensures { Reads (rule stmt) text.now tokens.now cursor nodes.old result nodes.new }
 {
@@ -40,7 +40,7 @@ fn stmt(text: &[u8], tokens: &[u8], nodes: &mut [u8], cursor: Cursor) -> Cursor
 }
 
 // The inside of a statement: its first token says which.
-#[cycle(block_branches_for_init_for_stmt_if_stmt_last_stmt_loop_stmt_stmt_stmt_at_stmts_while_stmt)]
+#[cycle(statements)]
 pub fn stmt_at(
     text: &[u8],
     tokens: &[u8],
@@ -98,7 +98,7 @@ pub fn stmt_at(
     p.ended_with(false)
 }
 
-#[cycle(block_branches_for_init_for_stmt_if_stmt_last_stmt_loop_stmt_stmt_stmt_at_stmts_while_stmt)]
+#[cycle(statements)]
 fn block(text: &[u8], tokens: &[u8], nodes: &mut [u8], cursor: Cursor) -> Cursor
     ensures { Reads block_stmt text.now tokens.now cursor nodes.old result nodes.new }
 {
@@ -111,7 +111,7 @@ fn block(text: &[u8], tokens: &[u8], nodes: &mut [u8], cursor: Cursor) -> Cursor
     p.whole(tokens, nodes, node_kind::BLOCK)
 }
 
-#[cycle(block_branches_for_init_for_stmt_if_stmt_last_stmt_loop_stmt_stmt_stmt_at_stmts_while_stmt)]
+#[cycle(statements)]
 pub fn stmts(text: &[u8], tokens: &[u8], nodes: &mut [u8], cursor: Cursor) -> Cursor
     ensures { Reads (many (rule stmt)) text.now tokens.now cursor nodes.old result nodes.new }
 {
@@ -130,7 +130,7 @@ pub fn stmts(text: &[u8], tokens: &[u8], nodes: &mut [u8], cursor: Cursor) -> Cu
     p
 }
 
-#[cycle(block_branches_for_init_for_stmt_if_stmt_last_stmt_loop_stmt_stmt_stmt_at_stmts_while_stmt)]
+#[cycle(statements)]
 fn if_stmt(text: &[u8], tokens: &[u8], nodes: &mut [u8], cursor: Cursor) -> StmtPart
     ensures { Ends if_stmt text.now tokens.now cursor nodes.old result nodes.new }
 {
@@ -143,7 +143,7 @@ fn if_stmt(text: &[u8], tokens: &[u8], nodes: &mut [u8], cursor: Cursor) -> Stmt
 }
 
 // The statement of an `if`, and its `else`: one that failed at this token within the statement is not tried again.
-#[cycle(block_branches_for_init_for_stmt_if_stmt_last_stmt_loop_stmt_stmt_stmt_at_stmts_while_stmt)]
+#[cycle(statements)]
 fn branches(text: &[u8], tokens: &[u8], nodes: &mut [u8], cursor: Cursor) -> StmtPart
     ensures { Ends (rule stmt & else_part & whole If) text.now tokens.now cursor nodes.old result nodes.new }
 {
@@ -192,7 +192,7 @@ fn branches(text: &[u8], tokens: &[u8], nodes: &mut [u8], cursor: Cursor) -> Stm
     q.ended_with(t.tried)
 }
 
-#[cycle(block_branches_for_init_for_stmt_if_stmt_last_stmt_loop_stmt_stmt_stmt_at_stmts_while_stmt)]
+#[cycle(statements)]
 fn loop_stmt(text: &[u8], tokens: &[u8], nodes: &mut [u8], cursor: Cursor) -> StmtPart
     ensures { Ends loop_stmt text.now tokens.now cursor nodes.old result nodes.new }
 {
@@ -203,7 +203,7 @@ fn loop_stmt(text: &[u8], tokens: &[u8], nodes: &mut [u8], cursor: Cursor) -> St
     last_stmt(text, tokens, nodes, p, node_kind::LOOP)
 }
 
-#[cycle(block_branches_for_init_for_stmt_if_stmt_last_stmt_loop_stmt_stmt_stmt_at_stmts_while_stmt)]
+#[cycle(statements)]
 fn while_stmt(text: &[u8], tokens: &[u8], nodes: &mut [u8], cursor: Cursor) -> StmtPart
     ensures { Ends while_stmt text.now tokens.now cursor nodes.old result nodes.new }
 {
@@ -215,7 +215,7 @@ fn while_stmt(text: &[u8], tokens: &[u8], nodes: &mut [u8], cursor: Cursor) -> S
     last_stmt(text, tokens, nodes, p, node_kind::WHILE)
 }
 
-#[cycle(block_branches_for_init_for_stmt_if_stmt_last_stmt_loop_stmt_stmt_stmt_at_stmts_while_stmt)]
+#[cycle(statements)]
 fn for_stmt(text: &[u8], tokens: &[u8], nodes: &mut [u8], cursor: Cursor) -> StmtPart
     ensures { Ends for_stmt text.now tokens.now cursor nodes.old result nodes.new }
 {
@@ -233,7 +233,7 @@ fn for_stmt(text: &[u8], tokens: &[u8], nodes: &mut [u8], cursor: Cursor) -> Stm
 }
 
 // The statement that a loop ends with, and the loop's node.
-#[cycle(block_branches_for_init_for_stmt_if_stmt_last_stmt_loop_stmt_stmt_stmt_at_stmts_while_stmt)]
+#[cycle(statements)]
 fn last_stmt(text: &[u8], tokens: &[u8], nodes: &mut [u8], cursor: Cursor, kind: u8) -> StmtPart
     ensures { Ends (rule stmt & whole kind) text.now tokens.now cursor nodes.old result nodes.new }
 {
@@ -255,7 +255,7 @@ fn last_stmt(text: &[u8], tokens: &[u8], nodes: &mut [u8], cursor: Cursor, kind:
 }
 
 // A `let` is read as the statement that it is.
-#[cycle(block_branches_for_init_for_stmt_if_stmt_last_stmt_loop_stmt_stmt_stmt_at_stmts_while_stmt)]
+#[cycle(statements)]
 fn for_init(text: &[u8], tokens: &[u8], nodes: &mut [u8], cursor: Cursor) -> Cursor
     ensures { Reads for_init text.now tokens.now cursor nodes.old result nodes.new }
 {

@@ -28,7 +28,7 @@ pub fn type_expr(text: &[u8], tokens: &[u8], nodes: &mut [u8], cursor: Cursor) -
 }
 
 // The inside of a type. Types within it call it by itself, so that `type_expr`, which others call, is small enough to be inlined.
-#[cycle(array_type_base_type_type_at_type_entries)]
+#[cycle(types)]
 fn type_at(
     text: &[u8],
     tokens: &[u8],
@@ -54,7 +54,7 @@ fn type_at(
 }
 
 // An array or a tuple.
-#[cycle(array_type_base_type_type_at_type_entries)]
+#[cycle(types)]
 fn base_type(text: &[u8], tokens: &[u8], nodes: &mut [u8], cursor: Cursor) -> Cursor
     ensures { Reads (array_type or tuple_type type) text.now tokens.now cursor nodes.old result nodes.new }
 {
@@ -70,7 +70,7 @@ fn base_type(text: &[u8], tokens: &[u8], nodes: &mut [u8], cursor: Cursor) -> Cu
     tuple_end(tokens, nodes, p)
 }
 
-#[cycle(array_type_base_type_type_at_type_entries)]
+#[cycle(types)]
 fn array_type(text: &[u8], tokens: &[u8], nodes: &mut [u8], cursor: Cursor) -> Cursor
     ensures { Reads array_type text.now tokens.now cursor nodes.old result nodes.new }
 {
@@ -110,7 +110,7 @@ fn array_size(text: &[u8], tokens: &[u8], nodes: &mut [u8], cursor: Cursor) -> C
     p.agree(e, cursor.nest)
 }
 
-#[cycle(array_type_base_type_type_at_type_entries)]
+#[cycle(types)]
 fn type_entries(text: &[u8], tokens: &[u8], nodes: &mut [u8], cursor: Cursor) -> Cursor
     ensures { Reads (entries (rule type)) text.now tokens.now cursor nodes.old result nodes.new }
 {

@@ -1,0 +1,10 @@
+-- What the loops of `names` keep, and its measures. Assumes nothing.
+use Rattle.cursor.proofs.Reading.{List, ℕ, size, Listing}
+use Rattle.grammar.specs.Grammar as L
+use Rattle.parser.proofs.items.names.Given as goal
+
+abbrev pub invariant-loop-p : goal.invariant-loop-p
+invariant-loop-p l = (text : List ℕ) → Listing text l.tokens (L.name) l.initial.p l.initial.nodes l.p l.nodes
+
+abbrev pub decreases-loop-p : goal.decreases-loop-p
+decreases-loop-p l = size l.tokens l.p 0

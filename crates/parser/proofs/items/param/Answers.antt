@@ -1,0 +1,12 @@
+-- `param` meets its contract. Assumes nothing.
+use Rattle.cursor.proofs.Reading.{refl, body, idle, one_put, one_grown, one_step, ◌then◌, by_rule}
+use Rattle.grammar.specs.Derive as G
+use Rattle.parser.proofs.items.param.Goals as goal
+
+pub returns-then-cursor-ne-READING : goal.returns-then-cursor-ne-READING
+unfolding body
+returns-then-cursor-ne-READING c = idle c.if-cursor-ne-READING.true
+
+pub returns : goal.returns
+unfolding body
+returns c = by_rule G.param refl c.if-cursor-ne-READING.false c.enter-p.ensures ((one_put c.spanned_ident-p.ensures) then (one_step c.take-p.ensures) then c.type_expr-p.ensures then (one_grown c.spanless-p.ensures)) c.leave.ensures
