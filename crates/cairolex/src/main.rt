@@ -4,17 +4,16 @@
 mod kind;
 mod rows;
 
+use case_io::fill;
 use rows::print;
 use std::io;
-use std::io::{BufWriter, Read, Write};
+use std::io::Write;
 
 // Reads one byte more than the longest text, so that a longer one is seen to be too long.
 fn main(rt: HostRuntime) -> io::Result<()> {
-    let mut text = Vec::new(rt.alloc());
-    rt.stdin().take(65536).read_to_end(&mut text)?;
-    let mut out = BufWriter::new(rt.alloc(), rt.stdout())?;
-    list(&mut out, &text)?;
-    out.flush()
+    let mut text = [0u8; 65536];
+    let n = fill(&mut rt.stdin(), &mut text)?;
+    list(&mut rt.stdout(), &text[..n])
 }
 
 // Both tables have 1,024 entries.

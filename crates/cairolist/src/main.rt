@@ -3,16 +3,17 @@
 
 ghost use Rattle.std.specs.Prelude.{◌≤◌};
 
+use case_io::fill;
 use entries::read_numbers;
 use listing::{Listed, list, list_refused};
 use std::io;
-use std::io::{Read, Write};
+use std::io::Write;
 
 // Reads one byte more than the longest text, so that a longer one is seen to be too long.
 fn main(rt: HostRuntime) -> io::Result<()> {
-    let mut text = Vec::new(rt.alloc());
-    rt.stdin().take(65536).read_to_end(&mut text)?;
-    answer(&mut rt.stdout(), &mut rt.stderr(), &text)
+    let mut text = [0u8; 65536];
+    let n = fill(&mut rt.stdin(), &mut text)?;
+    answer(&mut rt.stdout(), &mut rt.stderr(), &text[..n])
 }
 
 // Each table has 1,024 entries.

@@ -2,11 +2,26 @@
 // The contracts say what keeps a caller safe. What is read and written is held to the case files.
 #![tactic(auto)]
 
-ghost use Rattle.std.specs.Prelude.{◌≤◌, ◌∷◌, max, length, decimal, OnOk};
+ghost use Rattle.std.specs.Prelude.{◌≤◌, ◌∷◌, max, length, decimal, IfOk, OnOk};
 ghost use Rattle.std.specs.Io.KnownBytes.{Appends};
 
 use std::io;
-use std::io::Write;
+use std::io::{Read, Write};
+
+// Reads until the buffer is full or the input ends, and says how many bytes there are.
+pub fn fill<R: Read>(input: &mut R, buf: &mut [u8]) -> io::Result<usize>
+    ensures { IfOk result (λ n. n ≤ length buf.new) }
+{
+    let mut n = 0;
+    while n < buf.len() {
+        let k = input.read(&mut buf[n..])?;
+        if k == 0 {
+            return Ok(n);
+        }
+        n += k;
+    }
+    Ok(n)
+}
 
 // The place of the next line feed from `at` on, or the end.
 pub fn line_end(file: &[u8], at: usize) -> usize

@@ -4,17 +4,15 @@
 mod input;
 mod lexing;
 
-use case_io::{field, line_end, number, words};
+use case_io::{field, fill, line_end, number, words};
 use numeral::Answer;
 use std::io;
-use std::io::{BufWriter, Read, Write};
+use std::io::Write;
 
 fn main(rt: HostRuntime) -> io::Result<()> {
-    let mut file = Vec::new(rt.alloc());
-    rt.stdin().take(262144).read_to_end(&mut file)?;
-    let mut out = BufWriter::new(rt.alloc(), rt.stdout())?;
-    lines(&mut out, &file)?;
-    out.flush()
+    let mut file = [0u8; 262144];
+    let n = fill(&mut rt.stdin(), &mut file)?;
+    lines(&mut rt.stdout(), &file[..n])
 }
 
 fn lines<W: Write>(out: &mut W, file: &[u8]) -> io::Result<()> {

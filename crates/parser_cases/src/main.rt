@@ -7,16 +7,18 @@ mod tree;
 
 ghost use Rattle.std.specs.Prelude.{◌≤◌, ◌<◌, length, IfOk};
 
-use case_io::{line_end, number, words};
+use case_io::{fill, line_end, number, words};
 use std::io;
-use std::io::{BufWriter, Read, Write};
+use std::io::{Read, Write};
 
 fn main(rt: HostRuntime) -> io::Result<()> {
-    let mut file = Vec::new(rt.alloc());
-    rt.stdin().take(524288).read_to_end(&mut file)?;
-    let mut out = BufWriter::new(rt.alloc(), rt.stdout())?;
-    cases(&mut out, &file)?;
-    out.flush()
+    let mut file = [0u8; 524288];
+    read(&mut rt.stdin(), &mut rt.stdout(), &mut file)
+}
+
+fn read<R: Read, W: Write>(input: &mut R, out: &mut W, file: &mut [u8]) -> io::Result<()> {
+    let n = fill(input, file)?;
+    cases(out, &file[..n])
 }
 
 fn cases<W: Write>(out: &mut W, file: &[u8]) -> io::Result<()> {
