@@ -8,16 +8,17 @@ ghost use Rattle.std.specs.Prelude.{◌<◌, length, IfOk};
 use case_io::{fill, number};
 use reading::answer;
 use std::io;
-use std::io::{Read, Write};
+use std::io::Write;
 
 fn main(rt: HostRuntime) -> io::Result<()> {
-    let mut file = [0u8; 524288];
-    read(&mut rt.stdin(), &mut rt.stdout(), &mut file)
+    let mut file = room();
+    let n = fill(&mut rt.stdin(), &mut file)?;
+    cases(&mut rt.stdout(), &file[..n])
 }
 
-fn read<R: Read, W: Write>(input: &mut R, out: &mut W, file: &mut [u8]) -> io::Result<()> {
-    let n = fill(input, file)?;
-    cases(out, &file[..n])
+// Zeros. They are made here, since where they are written out a proof counts them one by one.
+fn room() -> [u8; 524288] {
+    [0; 524288]
 }
 
 fn cases<W: Write>(out: &mut W, file: &[u8]) -> io::Result<()> {
