@@ -12,9 +12,7 @@ use Rattle.grammar.proofs.Suffix.{unknown_suffixes}
 use Rattle.grammar.proofs.Few.{few}
 use Rattle.parser.specs.Parse.{Verdict, tree, syntax, deep, VerdictIs, is_deep, is_tree, is_syntax, MAX64, entry_of, answer_of, nodes_of, ParsedIs}
 use Rattle.parser.specs.declared.Parsed.{Parsed}
-use Rattle.parser.specs.declared.Parsed.TheVariants as Parsed
 use Rattle.cairo_m.specs.declared.Reading.{Reading}
-use Rattle.cairo_m.specs.declared.Reading.TheVariants as Reading
 use Rattle.cairo_m.specs.Reading.{input, nest, suffix, node_room, accepted, is_nest, is_suffix, is_node_room, is_accepted, suffix_error}
 use Rattle.cairo_m.specs.Reading as R
 use Rattle.cairo_m.specs.Suffixes.{Stopped, stopped_at, stopped_after, Unknown, TokensRead}

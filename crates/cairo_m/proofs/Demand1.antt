@@ -7,7 +7,6 @@ use lib.ListN.{replicate}
 use Rattle.tables.specs.Tables.{encode_token, encode_node, token_table, node_table}
 use Rattle.tables.proofs.Laws.{table_none}
 use Rattle.cairo_m.specs.declared.Reading.{Reading}
-use Rattle.cairo_m.specs.declared.Reading.TheVariants as Reading
 use Rattle.cairo_m.specs.Reading.{Outcome, accepted, long, encoding, lexical, token_room, nest, syntax, suffix, node_room, reading_of, tokens_of, nodes_of, ReadingIs, outcome_of}
 
 pub numbered : (r : Reading) → outcome_of r ≤ 8

@@ -8,9 +8,8 @@ use native.Mathlib.Decide.{ℕ_discrete}
 use lib.Dec.{T, leb, ltb, eqb, leb→le}
 use lib.ListN.{length, take, drop}
 use borrow.Author.Tests.{eqb-true, eqb-false, ltb-true}
-use Rattle.patterns.specs.Bytes.{bytes, within, same, starts, in_set, white, letter, digit, word, run}
-use Rattle.patterns.proofs.Tests.{T_of, and_l, and_r}
-use Rattle.patterns.proofs.Table.{within_is}
+use Rattle.patterns.specs.Bytes.{bytes, same, starts, in_set, white, letter, digit, word, run}
+use Rattle.patterns.proofs.Tests.{and_l, and_r}
 use Rattle.patterns.proofs.Words.{same_is, same_self}
 use Rattle.tables.specs.Tables.{Token, Diagnostic}
 use Rattle.tables.specs.TokenKinds.{IDENT}

@@ -16,12 +16,10 @@ use Rattle.utf8.specs.Utf8.{Utf8}
 use Rattle.lexer.specs.Lexes.{Lexes}
 use Rattle.lexer.specs.Answers.{Result, long, encoding, lexed, ResultIs, too_long, not_utf8, lexes, answer_of, tokens_after, diagnostics_of as errorsIn, AnswerIs}
 use Rattle.lexer.specs.declared.entry.Answer.{Answer}
-use Rattle.lexer.specs.declared.entry.Answer.TheVariants as Answer
 use Rattle.grammar.specs.Grammar.{Tree}
 use Rattle.parser.specs.Parse.{entry_of}
 use Rattle.parser.proofs.Uncapped.{uncapped}
 use Rattle.cairo_m.specs.declared.Reading.{Reading}
-use Rattle.cairo_m.specs.declared.Reading.TheVariants as Reading
 use Rattle.cairo_m.specs.Reading.{input, Outcome, accepted, lexical, token_room, TokensAre, is_nest, is_syntax, is_suffix, is_node_room, is_accepted}
 use Rattle.cairo_m.specs.Reading.{OutcomeIs, is_long, is_encoding, is_lexical, is_token_room, is_lexed, reading_of, tokens_of, nodes_of, diagnostics_of, ReadingIs, outcome_of}
 use Rattle.cairo_m.specs.Reading as R

@@ -6,7 +6,6 @@ use Rattle.lexer.specs.Lexes.{Lexes}
 use Rattle.grammar.specs.Derive.{Input, token}
 use Rattle.grammar.specs.Grammar.{Tree, Deep, Taken, Stops}
 use Rattle.cairo_m.specs.declared.Reading.{Reading}
-use Rattle.cairo_m.specs.declared.Reading.TheVariants as Reading
 
 -- ---- the outcomes
 

@@ -1,17 +1,20 @@
 // The names of the kinds: `TokenType`'s variants in their order.
 ghost use Rattle.std.specs.Prelude.{◌≤◌, length};
 
-pub fn print_kind(kind: u8) {
+use std::io;
+use std::io::Write;
+
+pub fn print_kind<W: Write>(out: &mut W, kind: u8) -> io::Result<()> {
     let names =
         b"LiteralNumber As Const Else False Function If Let New Return Struct True While Loop For In Break \
           Continue Use Identifier Not AndAnd OrOr BitwiseAnd BitwiseOr BitwiseXor EqEq Neq LessEqual \
           GreaterEqual Less Greater Plus Minus Mul Div Mod Eq Arrow LParen RParen LBrace RBrace LBrack RBrack \
           Comma Semicolon Colon ColonColon Dot";
-    print_word(names, kind);
+    print_word(out, names, kind)
 }
 
 // The words are counted from 1.
-fn print_word(words: &[u8], number: u8) {
+fn print_word<W: Write>(out: &mut W, words: &[u8], number: u8) -> io::Result<()> {
     let mut at = 0;
     let mut left = number;
     while left > 1 {
@@ -19,7 +22,7 @@ fn print_word(words: &[u8], number: u8) {
         left -= 1;
     }
     let end = word_end(words, at);
-    io::write_all(1, &words[at..end]);
+    out.write_all(&words[at..end])
 }
 
 fn after_word(words: &[u8], at: usize) -> usize

@@ -5,16 +5,20 @@ mod kind;
 mod rows;
 
 use rows::print;
+use std::io;
+use std::io::{BufWriter, Read, Write};
 
 // Reads one byte more than the longest text, so that a longer one is seen to be too long.
-fn main() {
-    let mut text = [0u8; 65536];
-    let n = io::read_full(0, &mut text);
-    list(&text[..n]);
+fn main(rt: HostRuntime) -> io::Result<()> {
+    let mut text = Vec::new(rt.alloc());
+    rt.stdin().take(65536).read_to_end(&mut text)?;
+    let mut out = BufWriter::new(rt.alloc(), rt.stdout())?;
+    list(&mut out, &text)?;
+    out.flush()
 }
 
 // Both tables have 1,024 entries.
-fn list(text: &[u8]) {
+fn list<W: Write>(out: &mut W, text: &[u8]) -> io::Result<()> {
     let mut tokens = [0u8; 16384];
     let mut diagnostics = [0u8; 8192];
     let mut token_count: usize = 0;
@@ -27,26 +31,33 @@ fn list(text: &[u8]) {
         &mut diagnostic_count,
     );
     if outcome == 0 {
-        accepted(&tokens, token_count);
+        accepted(out, &tokens, token_count)
     } else {
-        refused(outcome, &diagnostics, diagnostic_count);
+        refused(out, outcome, &diagnostics, diagnostic_count)
     }
 }
 
 // [["Const",0,5,0,0],..]
-fn accepted(tokens: &[u8], count: usize) {
-    print(b"[");
-    rows::tokens(tokens, count);
-    print(b"]\n");
+fn accepted<W: Write>(out: &mut W, tokens: &[u8], count: usize) -> io::Result<()> {
+    print(out, b"[")?;
+    rows::tokens(out, tokens, count)?;
+    print(out, b"]\n")
 }
 
 // {"refused":3,"diagnostics":[[0,1,1],..]}
-fn refused(outcome: u32, diagnostics: &[u8], count: usize) {
-    print(b"{\"refused\":");
-    io::print_decimal(1, outcome as u64);
-    print(b",\"diagnostics\":[");
-    rows::diagnostics(diagnostics, least(count, diagnostic::room(diagnostics)));
-    print(b"]}\n");
+fn refused<W: Write>(
+    out: &mut W,
+    outcome: u32,
+    diagnostics: &[u8],
+    count: usize,
+) -> io::Result<()> {
+    write!(out, "{{\"refused\":{outcome},\"diagnostics\":[")?;
+    rows::diagnostics(
+        out,
+        diagnostics,
+        least(count, diagnostic::room(diagnostics)),
+    )?;
+    print(out, b"]}\n")
 }
 
 fn least(a: usize, b: usize) -> usize {

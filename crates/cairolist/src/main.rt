@@ -5,16 +5,18 @@ ghost use Rattle.std.specs.Prelude.{◌≤◌};
 
 use entries::read_numbers;
 use listing::{Listed, list, list_refused};
+use std::io;
+use std::io::{Read, Write};
 
 // Reads one byte more than the longest text, so that a longer one is seen to be too long.
-fn main() {
-    let mut text = [0u8; 65536];
-    let n = io::read_full(0, &mut text);
-    answer(&text[..n]);
+fn main(rt: HostRuntime) -> io::Result<()> {
+    let mut text = Vec::new(rt.alloc());
+    rt.stdin().take(65536).read_to_end(&mut text)?;
+    answer(&mut rt.stdout(), &mut rt.stderr(), &text)
 }
 
 // Each table has 1,024 entries.
-fn answer(text: &[u8]) {
+fn answer<W: Write, E: Write>(out: &mut W, err: &mut E, text: &[u8]) -> io::Result<()> {
     let mut tokens = [0u8; 16384];
     let mut nodes = [0u8; 16384];
     let mut diagnostics = [0u8; 8192];
@@ -31,25 +33,36 @@ fn answer(text: &[u8]) {
         &mut diagnostic_count,
     );
     if outcome == 0 {
-        accepted(&nodes, node_count);
+        accepted(out, err, &nodes, node_count)
     } else {
-        refused(outcome, &diagnostics, diagnostic_count);
+        refused(out, err, outcome, &diagnostics, diagnostic_count)
     }
 }
 
 // A listing of 1,024 entries has less than 65,536 bytes.
-fn accepted(nodes: &[u8], count: usize) {
-    let mut out = [0u8; 65536];
+fn accepted<W: Write, E: Write>(
+    out: &mut W,
+    err: &mut E,
+    nodes: &[u8],
+    count: usize,
+) -> io::Result<()> {
+    let mut listing = [0u8; 65536];
     let end = least(count, node::room(nodes)) * 16;
-    let listed = list(&nodes[0..end], &mut out);
-    print(&out, listed);
+    let listed = list(&nodes[0..end], &mut listing);
+    print(out, err, &listing, listed)
 }
 
-fn refused(outcome: u32, diagnostics: &[u8], count: usize) {
-    let mut out = [0u8; 65536];
+fn refused<W: Write, E: Write>(
+    out: &mut W,
+    err: &mut E,
+    outcome: u32,
+    diagnostics: &[u8],
+    count: usize,
+) -> io::Result<()> {
+    let mut listing = [0u8; 65536];
     let end = least(count, diagnostic::room(diagnostics)) * 8;
-    let listed = list_refused(outcome, &diagnostics[0..end], &mut out);
-    print(&out, listed);
+    let listed = list_refused(outcome, &diagnostics[0..end], &mut listing);
+    print(out, err, &listing, listed)
 }
 
 fn least(a: usize, b: usize) -> usize
@@ -58,23 +71,28 @@ fn least(a: usize, b: usize) -> usize
     if a < b { a } else { b }
 }
 
-fn print(out: &[u8], listed: Listed) {
+fn print<W: Write, E: Write>(
+    out: &mut W,
+    err: &mut E,
+    listing: &[u8],
+    listed: Listed,
+) -> io::Result<()> {
     match listed {
-        Listed::Text(n) => line(out, n),
-        Listed::Kind => say(b"cairolist: a node of no kind\n"),
-        Listed::Room => say(b"cairolist: no room for the listing\n"),
+        Listed::Text(n) => line(out, listing, n),
+        Listed::Kind => say(err, b"cairolist: a node of no kind\n"),
+        Listed::Room => say(err, b"cairolist: no room for the listing\n"),
     }
 }
 
-fn line(out: &[u8], n: usize) {
-    if n > out.len() {
-        return;
+fn line<W: Write>(out: &mut W, listing: &[u8], n: usize) -> io::Result<()> {
+    if n > listing.len() {
+        return Ok(());
     }
-    io::write_all(1, &out[0..n]);
-    io::write_all(1, b"\n");
+    out.write_all(&listing[0..n])?;
+    out.write_all(b"\n")
 }
 
 // On standard error.
-fn say(words: &[u8]) {
-    io::write_all(2, words);
+fn say<E: Write>(err: &mut E, words: &[u8]) -> io::Result<()> {
+    err.write_all(words)
 }

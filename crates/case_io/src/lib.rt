@@ -2,7 +2,11 @@
 // The contracts say what keeps a caller safe. What is read and written is held to the case files.
 #![tactic(auto)]
 
-ghost use Rattle.std.specs.Prelude.{◌≤◌, max, length};
+ghost use Rattle.std.specs.Prelude.{◌≤◌, ◌∷◌, max, length, decimal, OnOk};
+ghost use Rattle.std.specs.Io.KnownBytes.{Appends};
+
+use std::io;
+use std::io::Write;
 
 // The place of the next line feed from `at` on, or the end.
 pub fn line_end(file: &[u8], at: usize) -> usize
@@ -53,14 +57,18 @@ fn with_digit(value: usize, b: u8) -> usize {
     value * 10 + digit
 }
 
-pub fn words(text: &[u8]) {
-    io::write_all(1, text);
+pub fn words<W: Write>(out: &mut W, text: &[u8]) -> io::Result<()>
+    ensures { OnOk result (Appends (W.contents out.old) (W.contents out.new) text.now) }
+{
+    out.write_all(text)
 }
 
 // A mark and a number.
-pub fn field(mark: u8, value: u64) {
-    io::write_all(1, &[mark]);
-    io::print_decimal(1, value);
+pub fn field<W: Write>(out: &mut W, mark: u8, value: u64) -> io::Result<()>
+    ensures { OnOk result (Appends (W.contents out.old) (W.contents out.new) (mark ∷ decimal value)) }
+{
+    out.write_all(&[mark])?;
+    write!(out, "{value}")
 }
 
 // How many bytes of a table are not zero though they are in no field of a used entry. Entries have `size` bytes, and no field

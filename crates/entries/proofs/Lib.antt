@@ -1,8 +1,4 @@
-pub mod Fields
 pub mod Front
-pub mod Lending
-pub mod Locals
-pub mod Walking
 pub mod Spellings
 pub mod NumeralAnswers
 pub mod LexAnswers

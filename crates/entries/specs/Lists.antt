@@ -2,7 +2,6 @@
 use Rattle.std.specs.Prelude.{◌≡◌, List, ℕ}
 use Rattle.listing.specs.Answers.{Result, answer_of, out_of}
 use Rattle.listing.specs.declared.Listed.{Listed}
-use Rattle.listing.specs.declared.Listed.TheVariants as Listed
 
 -- 01's numbers of the outcomes
 abbrev pub outcome_of : Listed → ℕ

@@ -2,7 +2,6 @@
 use Rattle.std.specs.Prelude.{◌≡◌, List, ℕ}
 use Rattle.lexer.specs.Answers.{AnswerIs}
 use Rattle.lexer.specs.declared.entry.Answer.{Answer}
-use Rattle.lexer.specs.declared.entry.Answer.TheVariants as Answer
 
 -- the paper's number of the outcome, and the numbers of tokens and of diagnostics
 abbrev pub outcome_of : Answer → ℕ

@@ -27,8 +27,7 @@ fn size_of(answer: Listed) -> usize
 }
 
 // The outcome's number, and the text's length through the last reference.
-#[unsafe(no_mangle)]
-pub extern "C" fn cairo_m_list(nodes: &[u8], out: &mut [u8], size: &mut usize) -> u32
+pub fn cairo_m_list(nodes: &[u8], out: &mut [u8], size: &mut usize) -> u32
     ensures { ListIs (listed (length out.old) (nodes_of nodes.now)) (length out.old) out.new size.new result }
 {
     let listed = list(nodes, out);
@@ -36,8 +35,7 @@ pub extern "C" fn cairo_m_list(nodes: &[u8], out: &mut [u8], size: &mut usize) -
     outcome_of(listed)
 }
 
-#[unsafe(no_mangle)]
-pub extern "C" fn cairo_m_list_refused(
+pub fn cairo_m_list_refused(
     outcome: u32,
     diagnostics: &[u8],
     out: &mut [u8],

@@ -85,8 +85,7 @@ fn reason_of(a: Answer) -> u8
 }
 
 // The numeral entry, for C.
-#[unsafe(no_mangle)]
-pub extern "C" fn cairo_m_numeral(
+pub fn cairo_m_numeral(
     spelling: &[u8],
     value: &mut u64,
     suffix: &mut u8,

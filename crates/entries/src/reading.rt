@@ -88,8 +88,7 @@ pub fn read_numbers(
 }
 
 // The reading for C: the outcome's number. The diagnostics are in their table, and in a list of records besides.
-#[unsafe(no_mangle)]
-pub extern "C" fn cairo_m_read(
+pub fn cairo_m_read(
     text: &[u8],
     tokens: &mut [u8],
     nodes: &mut [u8],
@@ -115,8 +114,7 @@ pub extern "C" fn cairo_m_read(
 }
 
 // The spelling for C: its length, and it begins at `start`; 0 where there is none.
-#[unsafe(no_mangle)]
-pub extern "C" fn cairo_m_spelling(text: &[u8], kind: u8, start: u16, end: u16) -> usize
+pub fn cairo_m_spelling(text: &[u8], kind: u8, start: u16, end: u16) -> usize
     ensures { result ≡ length (spelling_of text.now kind start end) }
 {
     let s = spelling(text, kind, start, end);

@@ -5,8 +5,7 @@ ghost use Rattle.entries.specs.Tokens.{LexIs};
 use lexer::{Answer, lex_alone};
 
 // The outcome's number, and through the last two references how many tokens and diagnostics there are.
-#[unsafe(no_mangle)]
-pub extern "C" fn cairo_m_lex(
+pub fn cairo_m_lex(
     text: &[u8],
     tokens: &mut [u8],
     diagnostics: &mut [u8],

@@ -5,7 +5,7 @@ use Prim.Native.Nat.{ℕ, ◌+◌, ◌-◌, ◌≤◌, ◌<◌}
 use native.Mathlib.Numerals.{add-one}
 use native.Mathlib.Omega.{arith}
 use lib.ListN.{length, take, get_or, set, length-append, length-take, length-set}
-use lib.Seq.{take-length, take_at, paste, paste-zero, paste-suc, length-paste, take-paste}
+use lib.Seq.{take-length, paste, paste-zero, paste-suc, length-paste, take-paste}
 use Rattle.json_text.specs.Writes.{Holds, held, full, Writes}
 
 -- ---- a piece

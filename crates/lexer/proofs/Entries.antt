@@ -10,9 +10,7 @@ use Rattle.tables.specs.Suffix.{unknown_numerals}
 use Rattle.tables.proofs.Laws.{cleared_all}
 use Rattle.lexer.specs.Answers.{Result, long, encoding, lexed, ResultIs, lexed_of, tokens_of, diagnostics_of, LexedIs, answer_of, AnswerIs, zeros}
 use Rattle.lexer.specs.declared.lexing.Lexed.{Lexed}
-use Rattle.lexer.specs.declared.lexing.Lexed.TheVariants as Lexed
 use Rattle.lexer.specs.declared.entry.Answer.{Answer}
-use Rattle.lexer.specs.declared.entry.Answer.TheVariants as Answer
 
 -- what `lex` answered, read back
 is_long : (x : Result) → Lexed.Long ≡ lexed_of x → x ≡ long

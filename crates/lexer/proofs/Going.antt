@@ -10,7 +10,6 @@ use lib.ListN.{length, take, drop, get_or, length-append, length-drop, drop_of_l
 use lib.Seq.{drop-drop, drop-cons}
 use Rattle.tables.specs.Tables.{Token, Diagnostic, encode_token, encode_diagnostic, laid, stored, kept, cleared}
 use Rattle.tables.proofs.Laws.{laid_length, laid_none, laid_more, laid_kept, token_size, diagnostic_size, cleared_all}
-use Rattle.tables.specs.TokenKinds.{NUMBER}
 use Rattle.tables.specs.Suffix.{unknown_numerals}
 use Rattle.tables.proofs.Suffix.{one_more}
 use Rattle.patterns.specs.Bytes.{in_set, white, run}
@@ -19,13 +18,11 @@ use Rattle.utf8.specs.Utf8.{Rest}
 use Rattle.utf8.proofs.Laws.{begins_some, rest_none, rest_char, rest_more, rest_end, next_ascii}
 use Rattle.numeral.specs.Numeral.{numeral_of}
 use Rattle.numeral.specs.declared.NumberLiteral.{NumberLiteral}
-use Rattle.numeral.specs.declared.NumberLiteral.TheVariants as NumberLiteral
 use Rattle.lexer.specs.Classes.{class_of, Table}
-use Rattle.lexer.specs.Lexes.{Item, skipped, token, error, item_of, Step, matched, strange, tokens, errors, Lexes, done, step}
+use Rattle.lexer.specs.Lexes.{Item, skipped, token, item_of, Step, matched, strange, tokens, errors, Lexes, done, step}
 use Rattle.lexer.specs.Answers.{long, encoding, lexed, too_long, not_utf8, lexes, LexedIs, zeros}
 use Rattle.lexer.specs.Scans.{Scanned, Reaches, Stepped}
 use Rattle.lexer.specs.declared.scan.Found.{Found}
-use Rattle.lexer.specs.declared.scan.Found.TheVariants as Found
 use Rattle.lexer.specs.declared.lexing.Item as declared
 use Rattle.lexer.specs.declared.lexing.Item.TheVariants as Item
 use Rattle.lexer.specs.declared.lexing.Lexed.TheVariants as Lexed

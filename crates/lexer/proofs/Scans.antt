@@ -10,10 +10,10 @@ use native.Mathlib.Decide.{dec_lt}
 use lib.Dec.{T, leb, ltb, leb→le}
 use lib.ListN.{length, take, drop, get_or, length-take, length-drop, get_or-eq_default}
 use lib.Seq.{get_or-drop, take_all, drop-drop}
-use borrow.Author.Tests.{eq-eqb, ne_eqb, le-leb, lt-leb, lt-ltb, ltb-true}
+use borrow.Author.Tests.{eq-eqb, le-leb, lt-leb, lt-ltb, ltb-true}
 use Rattle.patterns.specs.Bytes.{within, Set, in_set, white, word, run}
 use Rattle.patterns.specs.Patterns.{All}
-use Rattle.patterns.proofs.Tests.{T_of, of_T, or_cases, implies}
+use Rattle.patterns.proofs.Tests.{T_of, or_cases, implies}
 use Rattle.patterns.proofs.Table.{below, small, within_is, subset}
 use Rattle.patterns.proofs.Runs.{Passed, passed_none, passed_more, passed_stop, passed_end, run_within, run_all, all_imp}
 use Rattle.utf8.specs.Utf8.{Begins, FirstChar, Rest, begins, nothing}
@@ -24,7 +24,6 @@ use Rattle.lexer.specs.Classes.{class_of, Table}
 use Rattle.lexer.specs.Tokens.{Best, Stuck}
 use Rattle.lexer.specs.Scans.{KindIs, kind, no_kind, Begun, not_newline, Still, Plain, LineIs, line, broken, Scanned}
 use Rattle.lexer.specs.declared.scan.Found.{Found}
-use Rattle.lexer.specs.declared.scan.Found.TheVariants as Found
 use Rattle.lexer.proofs.Texts.{white_is, letter_is, digit_is, word_is, mark_is, next_is, lone_next, kind_law, fixed_kind}
 use Rattle.lexer.proofs.Leads.{best_white, best_comment, best_numeral, best_name, best_mark, stuck}
 

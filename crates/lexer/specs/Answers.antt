@@ -5,9 +5,7 @@ use Rattle.tables.specs.Suffix.{unknown_numerals}
 use Rattle.utf8.specs.Utf8.{Utf8}
 use Rattle.lexer.specs.Lexes.{Lexes}
 use Rattle.lexer.specs.declared.lexing.Lexed.{Lexed}
-use Rattle.lexer.specs.declared.lexing.Lexed.TheVariants as Lexed
 use Rattle.lexer.specs.declared.entry.Answer.{Answer}
-use Rattle.lexer.specs.declared.entry.Answer.TheVariants as Answer
 
 -- what a text is to the lexer
 pub data Result : Type 0 where

@@ -9,9 +9,7 @@ use Rattle.lexer.specs.Tokens.{Best, Stuck}
 use Rattle.lexer.specs.Lexes as Lexes
 use Rattle.lexer.specs.Lexes.{Step}
 use Rattle.lexer.specs.declared.scan.Found.{Found}
-use Rattle.lexer.specs.declared.scan.Found.TheVariants as Found
 use Rattle.lexer.specs.declared.lexing.Item.{Item}
-use Rattle.lexer.specs.declared.lexing.Item.TheVariants as Item
 
 -- of the kinds from a to e, the one whose text is w, or `none`
 pub data KindIs (a e none : ℕ) (w : List ℕ) (r : ℕ) : Type 0 where

@@ -6,56 +6,61 @@ mod lexing;
 
 use case_io::{field, line_end, number, words};
 use numeral::Answer;
+use std::io;
+use std::io::{BufWriter, Read, Write};
 
-fn main() {
-    let mut file = [0u8; 262144];
-    let n = io::read_full(0, &mut file);
-    lines(&file[..n]);
+fn main(rt: HostRuntime) -> io::Result<()> {
+    let mut file = Vec::new(rt.alloc());
+    rt.stdin().take(262144).read_to_end(&mut file)?;
+    let mut out = BufWriter::new(rt.alloc(), rt.stdout())?;
+    lines(&mut out, &file)?;
+    out.flush()
 }
 
-fn lines(file: &[u8]) {
+fn lines<W: Write>(out: &mut W, file: &[u8]) -> io::Result<()> {
     let mut at = 0;
     while at < file.len() {
         let end = line_end(file, at);
-        line(&file[at..end]);
+        line(out, &file[at..end])?;
         at = end + 1;
     }
+    Ok(())
 }
 
 // A heading is printed as it stands.
-fn line(case: &[u8]) {
+fn line<W: Write>(out: &mut W, case: &[u8]) -> io::Result<()> {
     if case.len() < 3 {
-        return;
+        return Ok(());
     }
     match case[0] {
-        b'u' => utf8_case(case),
-        b'n' => numeral_case(case),
-        b'l' => lexing_case(case),
-        _ => words(case),
+        b'u' => utf8_case(out, case)?,
+        b'n' => numeral_case(out, case)?,
+        b'l' => lexing_case(out, case)?,
+        _ => words(out, case)?,
     }
-    words(b"\n");
+    words(out, b"\n")
 }
 
 // u BYTES: is_utf8, char_len.
-fn utf8_case(case: &[u8]) {
+fn utf8_case<W: Write>(out: &mut W, case: &[u8]) -> io::Result<()> {
     let mut space = [0u8; 65600];
     let n = input::bytes(case, 2, &mut space);
     let text = &space[0..n];
-    words(b"u");
-    field(b' ', utf8::is_utf8(text) as u64);
-    field(b' ', utf8::char_len(text) as u64);
+    words(out, b"u")?;
+    field(out, b' ', utf8::is_utf8(text) as u64)?;
+    field(out, b' ', utf8::char_len(text) as u64)
 }
 
 // n BYTES: outcome, value, suffix, base and reason of the C entry, then the answer as an enum.
-fn numeral_case(case: &[u8]) {
+fn numeral_case<W: Write>(out: &mut W, case: &[u8]) -> io::Result<()> {
     let mut space = [0u8; 65600];
     let n = input::bytes(case, 2, &mut space);
-    numeral_entry(&space[0..n]);
-    numeral_answer(&space[0..n]);
+    numeral_entry(out, &space[0..n])?;
+    numeral_answer(out, &space[0..n])
 }
 
 // The places for the answer hold something else before the call.
-fn numeral_entry(spelling: &[u8]) {
+fn numeral_entry<W: Write>(out: &mut W, spelling: &[u8]) -> io::Result<()> {
     let mut value: u64 = 0xAAAA_AAAA_AAAA_AAAA;
     let mut suffix: u8 = 0xAA;
     let mut base: u8 = 0xAA;
@@ -67,15 +72,15 @@ fn numeral_entry(spelling: &[u8]) {
         &mut base,
         &mut reason,
     );
-    words(b"n");
-    field(b' ', outcome as u64);
-    field(b' ', value);
-    field(b' ', suffix as u64);
-    field(b' ', base as u64);
-    field(b' ', reason as u64);
+    words(out, b"n")?;
+    field(out, b' ', outcome as u64)?;
+    field(out, b' ', value)?;
+    field(out, b' ', suffix as u64)?;
+    field(out, b' ', base as u64)?;
+    field(out, b' ', reason as u64)
 }
 
-fn numeral_answer(spelling: &[u8]) {
+fn numeral_answer<W: Write>(out: &mut W, spelling: &[u8]) -> io::Result<()> {
     let answer = numeral::answer(spelling);
     match answer {
         Answer::Number {
@@ -83,25 +88,25 @@ fn numeral_answer(spelling: &[u8]) {
             suffix,
             base,
         } => {
-            words(b" number");
-            field(b' ', value);
-            field(b' ', suffix as u64);
-            field(b' ', base as u64);
+            words(out, b" number")?;
+            field(out, b' ', value)?;
+            field(out, b' ', suffix as u64)?;
+            field(out, b' ', base as u64)
         }
-        Answer::Long => words(b" long"),
-        Answer::Spelling => words(b" spelling"),
+        Answer::Long => words(out, b" long"),
+        Answer::Spelling => words(out, b" spelling"),
         Answer::Lexical { reason } => {
-            words(b" lexical");
-            field(b' ', reason as u64);
+            words(out, b" lexical")?;
+            field(out, b' ', reason as u64)
         }
     }
 }
 
 // l T D BYTES: lexing with T bytes of token table and D bytes of diagnostics.
-fn lexing_case(case: &[u8]) {
+fn lexing_case<W: Write>(out: &mut W, case: &[u8]) -> io::Result<()> {
     let mut space = [0u8; 65600];
     let tokens = number(case, 2);
     let diagnostics = number(case, tokens.next);
     let n = input::bytes(case, diagnostics.next, &mut space);
-    lexing::answer(&space[0..n], tokens.value, diagnostics.value);
+    lexing::answer(out, &space[0..n], tokens.value, diagnostics.value)
 }

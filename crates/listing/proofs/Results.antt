@@ -7,7 +7,7 @@ use native.Mathlib.Omega.{arith}
 use lib.ListN.{length}
 use lib.Seq.{length-take-le}
 use borrow.Author.Tests.{le-leb, lt-leb}
-use Rattle.tables.specs.Tables.{Node, filled, cleared}
+use Rattle.tables.specs.Tables.{Node, cleared}
 use Rattle.tables.proofs.Laws.{cleared_all, filled_is}
 use Rattle.json_text.specs.Json.{listing}
 use Rattle.listing.specs.Answers.{all_are_known, fitted, listed, ListedIs}

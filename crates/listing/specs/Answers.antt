@@ -4,7 +4,6 @@ use Rattle.patterns.specs.Bytes.{within}
 use Rattle.tables.specs.Tables.{Node, Diagnostic, filled}
 use Rattle.json_text.specs.Json.{names, listing, refusal}
 use Rattle.listing.specs.declared.Listed.{Listed}
-use Rattle.listing.specs.declared.Listed.TheVariants as Listed
 
 -- the kind is in the table
 unfoldable pub known : ℕ → Bool

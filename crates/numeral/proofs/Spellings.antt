@@ -8,7 +8,7 @@ use native.Mathlib.Omega.{arith}
 use lib.Dec.{T, lit≤}
 use lib.ListN.{length, take, drop, get_or, length-take}
 use lib.Seq.{get_or-take}
-use Rattle.patterns.specs.Bytes.{Set, bytes, in_set, either, letter, word, digit, hex, octal, binary, run}
+use Rattle.patterns.specs.Bytes.{Set, in_set, either, letter, word, digit, hex, octal, binary, run}
 use Rattle.patterns.specs.Patterns.{All, Name, text, one_of, some_of, optional, ◌then◌}
 use Rattle.patterns.proofs.Tests.{implies}
 use Rattle.patterns.proofs.Table.{small, below, subset}

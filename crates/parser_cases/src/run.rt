@@ -1,6 +1,8 @@
 // A long run of tokens, which are kinds alone: a reader that took the stack for each of them would not end.
 use super::tree::parsed;
 use case_io::number;
+use std::io;
+use std::io::Write;
 use token::{put_token, room};
 
 // Where the line and the table go on.
@@ -11,30 +13,30 @@ pub struct Laid {
 }
 
 // r N A KINDS B KINDS C KINDS: A kinds, N times B kinds, and C kinds.
-pub fn answer(case: &[u8]) {
+pub fn answer<W: Write>(out: &mut W, case: &[u8]) -> io::Result<()> {
     let mut tokens = [0u8; 262144];
-    run(case, &mut tokens);
+    run(out, case, &mut tokens)
 }
 
-fn run(case: &[u8], tokens: &mut [u8]) {
+fn run<W: Write>(out: &mut W, case: &[u8], tokens: &mut [u8]) -> io::Result<()> {
     let times = number(case, 2);
     let first = lay(case, times.next, tokens, 0, 1);
     let middle = lay(case, first.next, tokens, first.end, times.value);
     let last = lay(case, middle.next, tokens, middle.end, 1);
-    read(tokens, last.end);
+    read(out, tokens, last.end)
 }
 
 // No node is stored: they are counted.
-fn read(tokens: &[u8], end: usize) {
+fn read<W: Write>(out: &mut W, tokens: &[u8], end: usize) -> io::Result<()> {
     if end > 16384 {
-        return;
+        return Ok(());
     }
     let n = end * 16;
     if n > tokens.len() {
-        return;
+        return Ok(());
     }
     let mut nodes = [0u8; 1];
-    parsed(b"", &tokens[0..n], &mut nodes[0..0]);
+    parsed(out, b"", &tokens[0..n], &mut nodes[0..0])
 }
 
 // So many kinds, so many times.

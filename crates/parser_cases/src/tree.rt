@@ -1,32 +1,44 @@
 // A case of parsing.
 use case_io::{field, stray, words};
 use parser::{Parsed, parse};
+use std::io;
+use std::io::Write;
 
 // The table is full of another byte before the call.
-pub fn answer(text: &[u8], tokens: &[u8], node_bytes: usize) {
+pub fn answer<W: Write>(
+    out: &mut W,
+    text: &[u8],
+    tokens: &[u8],
+    node_bytes: usize,
+) -> io::Result<()> {
     let mut nodes = [0xAAu8; 16384];
     if node_bytes > 16384 {
-        return;
+        return Ok(());
     }
-    parsed(text, tokens, &mut nodes[0..node_bytes]);
+    parsed(out, text, tokens, &mut nodes[0..node_bytes])
 }
 
-pub fn parsed(text: &[u8], tokens: &[u8], nodes: &mut [u8]) {
+pub fn parsed<W: Write>(
+    out: &mut W,
+    text: &[u8],
+    tokens: &[u8],
+    nodes: &mut [u8],
+) -> io::Result<()> {
     let answer = parse(text, tokens, nodes);
     match answer {
         Parsed::Tree(count) => {
-            words(b"tree");
-            field(b' ', count as u64);
-            print_table(nodes, least(count, node::room(nodes)));
+            words(out, b"tree")?;
+            field(out, b' ', count as u64)?;
+            print_table(out, nodes, least(count, node::room(nodes)))
         }
         Parsed::Syntax(at) => {
-            words(b"syntax");
-            field(b' ', at as u64);
-            print_table(nodes, 0);
+            words(out, b"syntax")?;
+            field(out, b' ', at as u64)?;
+            print_table(out, nodes, 0)
         }
         Parsed::Deep => {
-            words(b"deep");
-            print_table(nodes, 0);
+            words(out, b"deep")?;
+            print_table(out, nodes, 0)
         }
     }
 }
@@ -36,19 +48,20 @@ fn least(a: usize, b: usize) -> usize {
 }
 
 // The bytes that should be zero and are not, then each node.
-fn print_table(nodes: &[u8], used: usize) {
-    field(b' ', stray(nodes, used, 16, 16, 16) as u64);
+fn print_table<W: Write>(out: &mut W, nodes: &[u8], used: usize) -> io::Result<()> {
+    field(out, b' ', stray(nodes, used, 16, 16, 16) as u64)?;
     for i in 0..used {
-        print_node(nodes, i);
+        print_node(out, nodes, i)?;
     }
+    Ok(())
 }
 
-fn print_node(table: &[u8], i: usize) {
-    words(b" ");
-    field(b'n', node::kind(table, i) as u64);
-    field(b',', node::start(table, i) as u64);
-    field(b',', node::end(table, i) as u64);
-    field(b',', node::children(table, i) as u64);
-    field(b',', node::value(table, i));
-    field(b',', node::base(table, i) as u64);
+fn print_node<W: Write>(out: &mut W, table: &[u8], i: usize) -> io::Result<()> {
+    words(out, b" ")?;
+    field(out, b'n', node::kind(table, i) as u64)?;
+    field(out, b',', node::start(table, i) as u64)?;
+    field(out, b',', node::end(table, i) as u64)?;
+    field(out, b',', node::children(table, i) as u64)?;
+    field(out, b',', node::value(table, i))?;
+    field(out, b',', node::base(table, i) as u64)
 }

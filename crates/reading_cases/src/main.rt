@@ -3,28 +3,33 @@
 
 mod reading;
 
-ghost use Rattle.std.specs.Prelude.{◌<◌, length};
+ghost use Rattle.std.specs.Prelude.{◌<◌, length, IfOk};
 
 use case_io::number;
 use reading::answer;
+use std::io;
+use std::io::{BufWriter, Read, Write};
 
-fn main() {
-    let mut file = [0u8; 524288];
-    let n = io::read_full(0, &mut file);
-    cases(&file[..n]);
+fn main(rt: HostRuntime) -> io::Result<()> {
+    let mut file = Vec::new(rt.alloc());
+    rt.stdin().take(524288).read_to_end(&mut file)?;
+    let mut out = BufWriter::new(rt.alloc(), rt.stdout())?;
+    cases(&mut out, &file)?;
+    out.flush()
 }
 
-fn cases(file: &[u8]) {
+fn cases<W: Write>(out: &mut W, file: &[u8]) -> io::Result<()> {
     let mut at = 0;
     while at < file.len() {
-        at = case(file, at);
+        at = case(out, file, at)?;
     }
+    Ok(())
 }
 
 // T N D L, a line feed, L bytes of text, a line feed: a reading with T, N and D bytes of token, node and diagnostic table.
-fn case(file: &[u8], at: usize) -> usize
+fn case<W: Write>(out: &mut W, file: &[u8], at: usize) -> io::Result<usize>
     requires { at < length file.now }
-    ensures { at < result }
+    ensures { IfOk result (λ next. at < next) }
 {
     let tokens = number(file, at);
     let nodes = number(file, tokens.next);
@@ -32,17 +37,18 @@ fn case(file: &[u8], at: usize) -> usize
     let size = number(file, diagnostics.next);
     let start = size.next;
     if start > file.len() {
-        return file.len();
+        return Ok(file.len());
     }
     if size.value > file.len() - start {
-        return file.len();
+        return Ok(file.len());
     }
     let end = start + size.value;
     answer(
+        out,
         &file[start..end],
         tokens.value,
         nodes.value,
         diagnostics.value,
-    );
-    end + 1
+    )?;
+    Ok(end + 1)
 }

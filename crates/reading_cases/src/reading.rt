@@ -4,31 +4,46 @@ ghost use Rattle.std.specs.Prelude.{◌≤◌};
 use case_io::{field, stray, words};
 use entries::read_numbers;
 use listing::{Listed, list, list_refused};
+use std::io;
+use std::io::Write;
 
 // The tables are full of another byte before the call.
-pub fn answer(text: &[u8], token_bytes: usize, node_bytes: usize, diagnostic_bytes: usize) {
+pub fn answer<W: Write>(
+    out: &mut W,
+    text: &[u8],
+    token_bytes: usize,
+    node_bytes: usize,
+    diagnostic_bytes: usize,
+) -> io::Result<()> {
     let mut tokens = [0xAAu8; 16384];
     let mut nodes = [0xAAu8; 16384];
     let mut diagnostics = [0xAAu8; 8192];
     if token_bytes > 16384 {
-        return;
+        return Ok(());
     }
     if node_bytes > 16384 {
-        return;
+        return Ok(());
     }
     if diagnostic_bytes > 8192 {
-        return;
+        return Ok(());
     }
     read(
+        out,
         text,
         &mut tokens[0..token_bytes],
         &mut nodes[0..node_bytes],
         &mut diagnostics[0..diagnostic_bytes],
-    );
+    )
 }
 
 // The outcome, the counts, the bytes that should be zero and are not, the tokens; then the listing.
-fn read(text: &[u8], tokens: &mut [u8], nodes: &mut [u8], diagnostics: &mut [u8]) {
+fn read<W: Write>(
+    out: &mut W,
+    text: &[u8],
+    tokens: &mut [u8],
+    nodes: &mut [u8],
+    diagnostics: &mut [u8],
+) -> io::Result<()> {
     let mut token_count: usize = 0;
     let mut node_count: usize = 0;
     let mut diagnostic_count: usize = 0;
@@ -41,11 +56,12 @@ fn read(text: &[u8], tokens: &mut [u8], nodes: &mut [u8], diagnostics: &mut [u8]
         &mut node_count,
         &mut diagnostic_count,
     );
-    field(b'o', outcome as u64);
-    field(b' ', token_count as u64);
-    field(b' ', node_count as u64);
-    field(b' ', diagnostic_count as u64);
+    field(out, b'o', outcome as u64)?;
+    field(out, b' ', token_count as u64)?;
+    field(out, b' ', node_count as u64)?;
+    field(out, b' ', diagnostic_count as u64)?;
     print_read(
+        out,
         outcome,
         tokens,
         nodes,
@@ -53,10 +69,11 @@ fn read(text: &[u8], tokens: &mut [u8], nodes: &mut [u8], diagnostics: &mut [u8]
         token_count,
         node_count,
         diagnostic_count,
-    );
+    )
 }
 
-fn print_read(
+fn print_read<W: Write>(
+    out: &mut W,
     outcome: u32,
     tokens: &[u8],
     nodes: &[u8],
@@ -64,52 +81,66 @@ fn print_read(
     t: usize,
     n: usize,
     d: usize,
-) {
+) -> io::Result<()> {
     let errors = least(d, diagnostic::room(diagnostics));
     if outcome == 0 {
-        print_tables(tokens, nodes, diagnostics, t, n, errors);
-        accepted(nodes, n);
+        print_tables(out, tokens, nodes, diagnostics, t, n, errors)?;
+        accepted(out, nodes, n)
     } else {
-        print_tables(tokens, nodes, diagnostics, 0, 0, errors);
-        refused(outcome, diagnostics, errors);
+        print_tables(out, tokens, nodes, diagnostics, 0, 0, errors)?;
+        refused(out, outcome, diagnostics, errors)
     }
 }
 
-fn print_tables(tokens: &[u8], nodes: &[u8], diagnostics: &[u8], t: usize, n: usize, d: usize) {
-    field(b' ', stray(tokens, t, 16, 7, 8) as u64);
-    field(b' ', stray(nodes, n, 16, 16, 16) as u64);
-    field(b' ', stray(diagnostics, d, 8, 5, 8) as u64);
-    print_tokens(tokens, t);
-    words(b"\n");
+fn print_tables<W: Write>(
+    out: &mut W,
+    tokens: &[u8],
+    nodes: &[u8],
+    diagnostics: &[u8],
+    t: usize,
+    n: usize,
+    d: usize,
+) -> io::Result<()> {
+    field(out, b' ', stray(tokens, t, 16, 7, 8) as u64)?;
+    field(out, b' ', stray(nodes, n, 16, 16, 16) as u64)?;
+    field(out, b' ', stray(diagnostics, d, 8, 5, 8) as u64)?;
+    print_tokens(out, tokens, t)?;
+    words(out, b"\n")
 }
 
-fn print_tokens(tokens: &[u8], count: usize) {
+fn print_tokens<W: Write>(out: &mut W, tokens: &[u8], count: usize) -> io::Result<()> {
     for i in 0..count {
-        print_token(tokens, i);
+        print_token(out, tokens, i)?;
     }
+    Ok(())
 }
 
-fn print_token(table: &[u8], i: usize) {
-    field(b' ', token::kind(table, i) as u64);
-    field(b',', token::suffix(table, i) as u64);
-    field(b',', token::start(table, i) as u64);
-    field(b',', token::end(table, i) as u64);
-    field(b',', token::value(table, i));
-    field(b',', token::base(table, i) as u64);
+fn print_token<W: Write>(out: &mut W, table: &[u8], i: usize) -> io::Result<()> {
+    field(out, b' ', token::kind(table, i) as u64)?;
+    field(out, b',', token::suffix(table, i) as u64)?;
+    field(out, b',', token::start(table, i) as u64)?;
+    field(out, b',', token::end(table, i) as u64)?;
+    field(out, b',', token::value(table, i))?;
+    field(out, b',', token::base(table, i) as u64)
 }
 
-fn accepted(nodes: &[u8], count: usize) {
-    let mut out = [0u8; 65536];
+fn accepted<W: Write>(out: &mut W, nodes: &[u8], count: usize) -> io::Result<()> {
+    let mut listing = [0u8; 65536];
     let end = least(count, node::room(nodes)) * 16;
-    let listed = list(&nodes[0..end], &mut out);
-    print(&out, listed);
+    let listed = list(&nodes[0..end], &mut listing);
+    print(out, &listing, listed)
 }
 
-fn refused(outcome: u32, diagnostics: &[u8], count: usize) {
-    let mut out = [0u8; 65536];
+fn refused<W: Write>(
+    out: &mut W,
+    outcome: u32,
+    diagnostics: &[u8],
+    count: usize,
+) -> io::Result<()> {
+    let mut listing = [0u8; 65536];
     let end = least(count, diagnostic::room(diagnostics)) * 8;
-    let listed = list_refused(outcome, &diagnostics[0..end], &mut out);
-    print(&out, listed);
+    let listed = list_refused(outcome, &diagnostics[0..end], &mut listing);
+    print(out, &listing, listed)
 }
 
 fn least(a: usize, b: usize) -> usize
@@ -118,18 +149,18 @@ fn least(a: usize, b: usize) -> usize
     if a < b { a } else { b }
 }
 
-fn print(out: &[u8], listed: Listed) {
+fn print<W: Write>(out: &mut W, listing: &[u8], listed: Listed) -> io::Result<()> {
     match listed {
-        Listed::Text(n) => line(out, n),
-        Listed::Kind => words(b"kind\n"),
-        Listed::Room => words(b"room\n"),
+        Listed::Text(n) => line(out, listing, n),
+        Listed::Kind => words(out, b"kind\n"),
+        Listed::Room => words(out, b"room\n"),
     }
 }
 
-fn line(out: &[u8], n: usize) {
-    if n > out.len() {
-        return;
+fn line<W: Write>(out: &mut W, listing: &[u8], n: usize) -> io::Result<()> {
+    if n > listing.len() {
+        return Ok(());
     }
-    words(&out[0..n]);
-    words(b"\n");
+    words(out, &listing[0..n])?;
+    words(out, b"\n")
 }

@@ -2,7 +2,7 @@
 use mathlib.Core.Path.{◌≡◌, refl, sym, ap, ◌∙◌}
 use mathlib.Core.Bool.{Bool, true, false, cond}
 use mathlib.Core.List.{List, [], ◌∷◌, ◌++◌, append-nil, append_assoc}
-use Prim.Native.Nat.{ℕ, ◌+◌}
+use Prim.Native.Nat.{◌+◌}
 use lib.ListN.{length, length-append}
 use Rattle.tables.specs.Tables.{Token}
 use Rattle.tables.specs.Suffix.{unknown_suffix, keep, unknown_numerals}

@@ -1,8 +1,5 @@
-use Prim.Native.Nat.{◌-◌}
 use borrow.Author.Rules.{rules}
-use lib.ListN.{length}
-use Rattle.patterns.proofs.Runs.{Passed, passed_none, passed_more, passed_stop, passed_end}
-use Rattle.numeral.specs.Numeral.{digit_in}
+use Rattle.patterns.proofs.Runs.{passed_none, passed_more, passed_stop, passed_end}
 use Rattle.numeral.proofs.Digits.{is_digit, no_digit}
 use Rattle.numeral.proofs.digit_run.Goals as goal
 

@@ -1,7 +1,5 @@
-use Prim.Native.Nat.{◌-◌}
 use borrow.Author.Rules.{rules}
-use lib.ListN.{length}
-use Rattle.numeral.proofs.Digits.{product_fits, next_fits, Read, read_none, read_more, read_over, read_format, read_end}
+use Rattle.numeral.proofs.Digits.{product_fits, next_fits, read_none, read_more, read_over, read_format, read_end}
 use Rattle.numeral.proofs.from_str_radix.Goals as goal
 
 pub loop-i-init : goal.loop-i-init

@@ -1,8 +1,5 @@
-use Prim.Native.Nat.{◌-◌}
 use borrow.Author.Rules.{rules}
-use lib.ListN.{length}
-use Rattle.patterns.specs.Bytes.{in_set, word}
-use Rattle.patterns.proofs.Runs.{Passed, passed_none}
+use Rattle.patterns.proofs.Runs.{passed_none}
 use Rattle.numeral.proofs.Entries.{spelled_empty, spelled_low, spelled_high, spelled_more, spelled_stop, spelled_end}
 use Rattle.numeral.proofs.is_spelling.Goals as goal
 

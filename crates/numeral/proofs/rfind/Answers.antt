@@ -1,5 +1,5 @@
 use borrow.Author.Rules.{rules}
-use Rattle.numeral.proofs.Cuts.{Sought, sought_none, sought_more, sought_stop, sought_end}
+use Rattle.numeral.proofs.Cuts.{sought_none, sought_more, sought_stop, sought_end}
 use Rattle.numeral.proofs.rfind.Goals as goal
 
 pub loop-i-init : goal.loop-i-init

@@ -1,5 +1,4 @@
-use borrow.Author.Rules.{rules}
-use Rattle.numeral.proofs.Cuts.{Sought, sought_none, sought_more, sought_stop, sought_end}
+use Rattle.numeral.proofs.Cuts.{Sought}
 use Rattle.numeral.proofs.rfind.Given as goal
 
 abbrev pub invariant-loop-i : goal.invariant-loop-i

@@ -1,4 +1,3 @@
-use borrow.Author.Rules.{rules}
 use borrow.Author.Tests.{ne_eqb}
 use Rattle.numeral.specs.Numeral.{suffix_kind}
 use Rattle.numeral.proofs.suffix_kind.Goals as goal

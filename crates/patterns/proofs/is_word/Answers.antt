@@ -1,4 +1,3 @@
-use borrow.Author.Rules.{rules}
 use mathlib.Core.Path.{sym, ◌∙◌}
 use Rattle.patterns.proofs.Words.{same_short, same_long}
 use Rattle.patterns.proofs.is_word.Goals as goal

@@ -1,8 +1,6 @@
-use Prim.Native.Nat.{◌-◌}
 use borrow.Author.Rules.{rules}
 use mathlib.Core.Path.{sym}
-use lib.ListN.{length}
-use Rattle.patterns.proofs.Words.{Alike, alike_none, alike_more, alike_stop, alike_end, starts_short}
+use Rattle.patterns.proofs.Words.{alike_none, alike_more, alike_stop, alike_end, starts_short}
 use Rattle.patterns.proofs.starts_with.Goals as goal
 
 pub returns-then-s-w : goal.returns-then-s-w

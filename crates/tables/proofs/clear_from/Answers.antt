@@ -1,8 +1,7 @@
-use Prim.Native.Nat.{◌-◌}
 use borrow.Author.Rules.{rules}
-use lib.ListN.{length, length-set}
+use lib.ListN.{length-set}
 use native.Mathlib.Omega.{arith}
-use Rattle.tables.proofs.Laws.{Clearing, clearing_none, clearing_more, clearing_end}
+use Rattle.tables.proofs.Laws.{clearing_none, clearing_more, clearing_end}
 use Rattle.tables.proofs.clear_from.Goals as goal
 
 pub loop-i-init : goal.loop-i-init

@@ -1,8 +1,6 @@
 use Prim.Native.Nat.{◌-◌}
-use borrow.Author.Rules.{rules}
-use lib.ListN.{length, length-set}
-use native.Mathlib.Omega.{arith}
-use Rattle.tables.proofs.Laws.{Clearing, clearing_none, clearing_more, clearing_end}
+use lib.ListN.{length}
+use Rattle.tables.proofs.Laws.{Clearing}
 use Rattle.tables.proofs.clear_from.Given as goal
 
 abbrev pub invariant-loop-i : goal.invariant-loop-i

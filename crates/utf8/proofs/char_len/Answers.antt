@@ -1,4 +1,3 @@
-use borrow.Author.Rules.{rules}
 use native.Mathlib.Omega.{arith}
 use Rattle.utf8.specs.Utf8.{begins}
 use Rattle.utf8.proofs.Laws.{refused, one_here}

@@ -1,4 +1,3 @@
-use borrow.Author.Rules.{rules}
 use native.Mathlib.Omega.{arith}
 use Rattle.utf8.proofs.Laws.{refused, two_here, three_here, four_here}
 use Rattle.utf8.proofs.long_len.Goals as goal

@@ -1,10 +1,8 @@
 use mathlib.Core.Path.{refl}
-use Prim.Native.Nat.{◌+◌, ◌-◌, ◌<◌}
 use native.Mathlib.Omega.{arith}
 use borrow.Author.Rules.{rules}
-use lib.ListN.{length, drop, get_or}
 use Rattle.lexer.proofs.Scans.{begun_at}
-use Rattle.lexer.proofs.Going.{Going, going_none, going_white, going_skipped, going_token, going_literal, going_error, going_done, going_broken, turned, same_tokens, same_errors}
+use Rattle.lexer.proofs.Going.{going_none, going_white, going_skipped, going_token, going_literal, going_error, going_done, going_broken, turned, same_tokens, same_errors}
 use Rattle.lexer.proofs.lexing.pass.Goals as goal
 
 pub loop-at-init : goal.loop-at-init

@@ -1,9 +1,9 @@
 use mathlib.Core.Path.{refl}
 use native.Mathlib.Omega.{arith}
 use borrow.Author.Rules.{rules}
-use lib.ListN.{length, length-take, length-drop}
+use lib.ListN.{length-take, length-drop}
 use Rattle.patterns.proofs.Runs.{rest_is}
-use Rattle.lexer.proofs.Going.{size_of, end_within, skip_step, token_step, literal_step, overflow_step, format_step, strange_step, broken_step}
+use Rattle.lexer.proofs.Going.{end_within, skip_step, token_step, literal_step, overflow_step, format_step, strange_step, broken_step}
 use Rattle.lexer.proofs.lexing.step.Goals as goal
 
 pub scan-f-requires : goal.scan-f-requires

@@ -1,9 +1,7 @@
-use Prim.Native.Nat.{◌-◌}
 use native.Mathlib.Omega.{arith}
 use borrow.Author.Rules.{rules}
-use lib.ListN.{length}
 use Rattle.utf8.proofs.Laws.{lent, char_within}
-use Rattle.lexer.proofs.Scans.{Line, line_none, line_plain, line_ascii, line_char, line_newline, line_end, line_broken}
+use Rattle.lexer.proofs.Scans.{line_none, line_plain, line_ascii, line_char, line_newline, line_end, line_broken}
 use Rattle.lexer.proofs.scan.line_run.Goals as goal
 
 pub loop-i-init : goal.loop-i-init

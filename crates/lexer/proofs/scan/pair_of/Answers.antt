@@ -1,4 +1,3 @@
-use borrow.Author.Rules.{rules}
 use Rattle.lexer.proofs.Texts.{no_pair, a_pair}
 use Rattle.lexer.proofs.scan.pair_of.Goals as goal
 

@@ -1,7 +1,4 @@
-use Prim.Native.Nat.{◌-◌}
-use native.Mathlib.Omega.{arith}
 use borrow.Author.Rules.{rules}
-use Rattle.lexer.specs.Scans.{Plain}
 use Rattle.lexer.proofs.Scans.{plain_none, plain_least, plain_more}
 use Rattle.lexer.proofs.scan.plain_at.Goals as goal
 

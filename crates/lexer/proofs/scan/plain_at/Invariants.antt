@@ -1,8 +1,5 @@
 use Prim.Native.Nat.{◌-◌}
-use native.Mathlib.Omega.{arith}
-use borrow.Author.Rules.{rules}
 use Rattle.lexer.specs.Scans.{Plain}
-use Rattle.lexer.proofs.Scans.{plain_none, plain_least, plain_more}
 use Rattle.lexer.proofs.scan.plain_at.Given as goal
 
 abbrev pub invariant-loop-j : goal.invariant-loop-j

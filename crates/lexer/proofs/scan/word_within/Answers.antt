@@ -1,8 +1,5 @@
-use Prim.Native.Nat.{◌-◌, ◌≤◌}
 use native.Mathlib.Omega.{arith}
-use borrow.Author.Rules.{rules}
-use Rattle.patterns.specs.Bytes.{in_set, word}
-use Rattle.patterns.proofs.Runs.{Passed, passed_none}
+use Rattle.patterns.proofs.Runs.{passed_none}
 use Rattle.lexer.proofs.Scans.{word_more, word_stop}
 use Rattle.lexer.proofs.scan.word_within.Goals as goal
 
