@@ -10,7 +10,7 @@ usage: proofs.py          write the files
        proofs.py check    say which files differ from what would be written, and fail if one does
        proofs.py places CRATE
                           write tools/places.txt anew for a crate, after a change of its readers' code (seconds; the crates below are proved)"""
-import glob, json, os, re, shutil, subprocess, sys
+import glob, json, os, re, subprocess, sys, tempfile
 
 TOP = os.path.dirname(os.path.dirname(os.path.abspath(__file__)))
 # the steps that readers are made of, and the readers, lowest first
@@ -121,11 +121,11 @@ def told(says, members):
 
 def refresh(crate):
     """has the checker say the names of a crate's steps, and keeps them in tools/places.txt"""
-    out = os.path.join(TOP, "target/generated")
-    shutil.rmtree(out, ignore_errors=True)
-    subprocess.run(["rt", "check", "--generated", out, "--old-names"], cwd=folder(crate), stdout=subprocess.DEVNULL, stderr=subprocess.DEVNULL)
+    with tempfile.TemporaryDirectory() as out:
+        subprocess.run(["rt", "check", "--generated", out, "--old-names"], cwd=folder(crate), stdout=subprocess.DEVNULL, stderr=subprocess.DEVNULL)
+        names = json.load(open(os.path.join(out, "names.json")))
     found = {name: p for name, p in places().items() if name in FNS and FNS[name].crate != crate}
-    for key, says in json.load(open(os.path.join(out, "names.json"))).items():
+    for key, says in names.items():
         m = re.fullmatch(rf"Rattle-{crate}-proofs\.(?:.*\.)?(?:(\w+)\.Lts|\+\w+\.Lts-(\w+))", key)
         name = m and (m.group(1) or m.group(2))
         if name in RECIPES: found[name] = told(says, [f for f, r in RECIPES.items() if r.get("cycle", 0) == RECIPES[name].get("cycle", 1)])
@@ -206,6 +206,33 @@ def looked(term, idle):
         term = term[:m.start()] + "(" + out + ")" + term[m.end():]
 
 
+def bare(term):
+    """a term without parentheses that say nothing: around a name, around parentheses, around the whole"""
+    def inner(s):
+        out, i = "", 0
+        while i < len(s):
+            if s[i] != "(": out += s[i]; i += 1; continue
+            depth, j = 1, i + 1
+            while depth: depth += {"(": 1, ")": -1}.get(s[j], 0); j += 1
+            x = inner(s[i + 1:j - 1])
+            out += x if re.fullmatch(r"[\w.·-]+", x) or alone(x) else f"({x})"
+            i = j
+        return out
+    def alone(s):
+        if not s.startswith("("): return False
+        depth = 0
+        for i, ch in enumerate(s):
+            depth += {"(": 1, ")": -1}.get(ch, 0)
+            if not depth: return i == len(s) - 1
+    def pair(s):
+        depth = 0
+        for ch in s:
+            depth += {"(": 1, ")": -1}.get(ch, 0)
+            if ch == "," and depth == 1: return True
+    out = inner(term)
+    return out[1:-1] if alone(out) and not pair(out) else out
+
+
 class Reader:
     def __init__(self, fn, recipe, lts, ranks):
         self.fn, self.lts, self.ranks = fn, lts, ranks
@@ -246,10 +273,9 @@ class Reader:
             start = f"(was {self.kept_on()} {test})" if test and not self.idle else "refl" if self.inside() else "if1"
             if callee.endswith("_at"): ch = "at_rule if1"
             term = f"({'further' if far else 'lower'} {self.ranks[callee]} {self.ranks[self.fn.name]} DECREASES {start} ({ch}) {'tt ' if far else ''}(omega arith), tt)"
-        elif term is None and goal == "returns" and self.idle: term = "ends_by refl (idle if1) ended_with" if self.fn.relation == "Ends" else self.own("idle if1")
+        elif term is None and goal == "returns" and self.idle and self.fn.relation == "Ends": term = "ends_by refl (idle if1) ended_with"
         elif term is None and "round" in self.recipe:
-            if goal == "loop-init": term = self.held("listing_begin" if "keeps" in self.recipe else "rounds_begin")
-            elif goal.startswith("loop-smaller"): term = f"further 0 0 refl TEST ({self.chain(names[:names.index('loop')])[0]}) tt (omega arith)"
+            if goal.startswith("loop-smaller"): term = f"further 0 0 refl TEST ({self.chain(names[:names.index('loop')])[0]}) tt (omega arith)"
             elif goal == "loop-preserved": term = self.held("rounds_next LOOP ROUND OUT KEPT")
         if term is None: return ""
         if goal.startswith("returns") and goal in self.recipe: term = self.own(term)
@@ -271,7 +297,9 @@ class Reader:
             law = READ.get(self.info(k).relation, ("",))[0] if self.info(k) and wraps and not raw else ""
             return f"({law} {facts[k]})" if law else facts[k]
         term = NAME.sub(fact, term)
-        return f"\npub {self.stem}{today} : goal.{self.stem}{today}\n{'unfolding body' + chr(10) if goal.startswith('returns') else ''}{self.stem}{today} {self.takes} = {term}\n"
+        # where the reading of a rule's body is one of the rule
+        opens = "unfolding body\n" if re.search(r"\b(inside_by|inside_as|by_rule) ", term) else ""
+        return f"\npub {self.stem}{today} : goal.{self.stem}{today}\n{opens}{self.stem}{today} {self.takes} = {bare(term)}\n"
 
     def held(self, term): return term if self.fn.relation in TEXTED else f"λ text. {term}"
     def own(self, term):
@@ -296,7 +324,7 @@ class Reader:
             measure = self.recipe.get("measure", "size tokens p 0")
             for kind, term in (("invariant", keeps), ("decreases", measure)):
                 name = f"{kind}-{self.stem}{loop}"
-                out += f"\nabbrev pub {name} : goal.{name}\n{name} l = {NAME.sub(value, term)}\n"
+                out += f"\nabbrev pub {name} : goal.{name}\n{name} l = {bare(NAME.sub(value, term))}\n"
         return out
 
 

@@ -15,7 +15,6 @@ use Rattle.cursor.specs.Read.{Attempt, READING, Represents, reached, Result, mat
 use Rattle.parser.specs.Parse.{Verdict, tree, syntax, deep, VerdictIs, is_deep, is_tree, is_syntax, answer_of, nodes_of, ParsedIs}
 use Rattle.cursor.specs.declared.Cursor.{Cursor}
 use Rattle.parser.specs.declared.Parsed.{Parsed}
-use Rattle.parser.specs.declared.Parsed.TheVariants as Parsed
 use Rattle.cursor.proofs.Cursors.{near}
 use Rattle.cursor.proofs.Holding.{holds_none, held}
 use Rattle.cursor.proofs.Laws.{clash, fine}

@@ -6,7 +6,6 @@ use Rattle.grammar.specs.Grammar.{Tree, Deep, Stops}
 pub use Rattle.cursor.specs.Entries.{input, MAX16, MAX64}
 unfoldable pub use Rattle.cursor.specs.Entries.{entry_of}
 use Rattle.parser.specs.declared.Parsed.{Parsed}
-use Rattle.parser.specs.declared.Parsed.TheVariants as Parsed
 
 -- ---- the verdict
 -- what a text's tokens are to the grammar: the nodes of a tree, or what 01 has as outcomes 7, with the place where reading stopped, and 5

@@ -1,67 +1,51 @@
 -- `operator` meets its contract. Assumes nothing.
-use Rattle.cursor.proofs.Reading.{body, steps, one_step, only, pass, at_level, above_level}
+use Rattle.cursor.proofs.Reading.{steps, one_step, only, pass, at_level, above_level}
 use Rattle.expressions.proofs.operator.Goals as goal
 
 pub returns-then-k-eq-MUL : goal.returns-then-k-eq-MUL
-unfolding body
-returns-then-k-eq-MUL c = at_level c.if-n-eq0.true (steps (λ text T. (only c.peek-k.ensures c.if-k-eq-MUL.true tt ((one_step c.mark.ensures)))))
+returns-then-k-eq-MUL c = at_level c.if-n-eq0.true (steps (λ text T. (only c.peek-k.ensures c.if-k-eq-MUL.true tt (one_step c.mark.ensures))))
 
 pub returns-then-k-eq-DIV : goal.returns-then-k-eq-DIV
-unfolding body
-returns-then-k-eq-DIV c = at_level c.if-n-eq0.true (steps (λ text T. (pass c.peek-k.ensures (c.if-k-eq-MUL.false, tt) tt (only c.peek-k.ensures c.if-k-eq-DIV.true tt ((one_step c.mark-then-k-eq-DIV.ensures))))))
+returns-then-k-eq-DIV c = at_level c.if-n-eq0.true (steps (λ text T. (pass c.peek-k.ensures (c.if-k-eq-MUL.false, tt) tt (only c.peek-k.ensures c.if-k-eq-DIV.true tt (one_step c.mark-then-k-eq-DIV.ensures)))))
 
 pub returns-then-n-eq0 : goal.returns-then-n-eq0
-unfolding body
-returns-then-n-eq0 c = at_level c.if-n-eq0.true (steps (λ text T. (pass c.peek-k.ensures (c.if-k-eq-MUL.false, tt) tt (pass c.peek-k.ensures (c.if-k-eq-DIV.false, tt) tt ((one_step c.mark-then-n-eq0.ensures))))))
+returns-then-n-eq0 c = at_level c.if-n-eq0.true (steps (λ text T. (pass c.peek-k.ensures (c.if-k-eq-MUL.false, tt) tt (pass c.peek-k.ensures (c.if-k-eq-DIV.false, tt) tt (one_step c.mark-then-n-eq0.ensures)))))
 
 pub returns-then-k-eq-PLUS : goal.returns-then-k-eq-PLUS
-unfolding body
-returns-then-k-eq-PLUS c = at_level c.if-n-eq1.true (steps (λ text T. (only c.peek-k.ensures c.if-k-eq-PLUS.true tt ((one_step c.mark-then-k-eq-PLUS.ensures)))))
+returns-then-k-eq-PLUS c = at_level c.if-n-eq1.true (steps (λ text T. (only c.peek-k.ensures c.if-k-eq-PLUS.true tt (one_step c.mark-then-k-eq-PLUS.ensures))))
 
 pub returns-then-n-eq1 : goal.returns-then-n-eq1
-unfolding body
-returns-then-n-eq1 c = at_level c.if-n-eq1.true (steps (λ text T. (pass c.peek-k.ensures (c.if-k-eq-PLUS.false, tt) tt ((one_step c.mark-then-n-eq1.ensures)))))
+returns-then-n-eq1 c = at_level c.if-n-eq1.true (steps (λ text T. (pass c.peek-k.ensures (c.if-k-eq-PLUS.false, tt) tt (one_step c.mark-then-n-eq1.ensures))))
 
 pub returns-then-k-eq-EQ_EQ : goal.returns-then-k-eq-EQ_EQ
-unfolding body
-returns-then-k-eq-EQ_EQ c = at_level c.if-n-eq2.true (steps (λ text T. (only c.peek-k.ensures c.if-k-eq-EQ_EQ.true tt ((one_step c.mark-then-k-eq-EQ_EQ.ensures)))))
+returns-then-k-eq-EQ_EQ c = at_level c.if-n-eq2.true (steps (λ text T. (only c.peek-k.ensures c.if-k-eq-EQ_EQ.true tt (one_step c.mark-then-k-eq-EQ_EQ.ensures))))
 
 pub returns-then-k-eq-NEQ : goal.returns-then-k-eq-NEQ
-unfolding body
-returns-then-k-eq-NEQ c = at_level c.if-n-eq2.true (steps (λ text T. (pass c.peek-k.ensures (c.if-k-eq-EQ_EQ.false, tt) tt (only c.peek-k.ensures c.if-k-eq-NEQ.true tt ((one_step c.mark-then-k-eq-NEQ.ensures))))))
+returns-then-k-eq-NEQ c = at_level c.if-n-eq2.true (steps (λ text T. (pass c.peek-k.ensures (c.if-k-eq-EQ_EQ.false, tt) tt (only c.peek-k.ensures c.if-k-eq-NEQ.true tt (one_step c.mark-then-k-eq-NEQ.ensures)))))
 
 pub returns-then-k-eq-LESS : goal.returns-then-k-eq-LESS
-unfolding body
-returns-then-k-eq-LESS c = at_level c.if-n-eq2.true (steps (λ text T. (pass c.peek-k.ensures (c.if-k-eq-EQ_EQ.false, tt) tt (pass c.peek-k.ensures (c.if-k-eq-NEQ.false, tt) tt (only c.peek-k.ensures c.if-k-eq-LESS.true tt ((one_step c.mark-then-k-eq-LESS.ensures)))))))
+returns-then-k-eq-LESS c = at_level c.if-n-eq2.true (steps (λ text T. (pass c.peek-k.ensures (c.if-k-eq-EQ_EQ.false, tt) tt (pass c.peek-k.ensures (c.if-k-eq-NEQ.false, tt) tt (only c.peek-k.ensures c.if-k-eq-LESS.true tt (one_step c.mark-then-k-eq-LESS.ensures))))))
 
 pub returns-then-k-eq-GREATER : goal.returns-then-k-eq-GREATER
-unfolding body
-returns-then-k-eq-GREATER c = at_level c.if-n-eq2.true (steps (λ text T. (pass c.peek-k.ensures (c.if-k-eq-EQ_EQ.false, tt) tt (pass c.peek-k.ensures (c.if-k-eq-NEQ.false, tt) tt (pass c.peek-k.ensures (c.if-k-eq-LESS.false, tt) tt (only c.peek-k.ensures c.if-k-eq-GREATER.true tt ((one_step c.mark-then-k-eq-GREATER.ensures))))))))
+returns-then-k-eq-GREATER c = at_level c.if-n-eq2.true (steps (λ text T. (pass c.peek-k.ensures (c.if-k-eq-EQ_EQ.false, tt) tt (pass c.peek-k.ensures (c.if-k-eq-NEQ.false, tt) tt (pass c.peek-k.ensures (c.if-k-eq-LESS.false, tt) tt (only c.peek-k.ensures c.if-k-eq-GREATER.true tt (one_step c.mark-then-k-eq-GREATER.ensures)))))))
 
 pub returns-then-k-eq-LESS_EQUAL : goal.returns-then-k-eq-LESS_EQUAL
-unfolding body
-returns-then-k-eq-LESS_EQUAL c = at_level c.if-n-eq2.true (steps (λ text T. (pass c.peek-k.ensures (c.if-k-eq-EQ_EQ.false, tt) tt (pass c.peek-k.ensures (c.if-k-eq-NEQ.false, tt) tt (pass c.peek-k.ensures (c.if-k-eq-LESS.false, tt) tt (pass c.peek-k.ensures (c.if-k-eq-GREATER.false, tt) tt (only c.peek-k.ensures c.if-k-eq-LESS_EQUAL.true tt ((one_step c.mark-then-k-eq-LESS_EQUAL.ensures)))))))))
+returns-then-k-eq-LESS_EQUAL c = at_level c.if-n-eq2.true (steps (λ text T. (pass c.peek-k.ensures (c.if-k-eq-EQ_EQ.false, tt) tt (pass c.peek-k.ensures (c.if-k-eq-NEQ.false, tt) tt (pass c.peek-k.ensures (c.if-k-eq-LESS.false, tt) tt (pass c.peek-k.ensures (c.if-k-eq-GREATER.false, tt) tt (only c.peek-k.ensures c.if-k-eq-LESS_EQUAL.true tt (one_step c.mark-then-k-eq-LESS_EQUAL.ensures))))))))
 
 pub returns-then-n-eq2 : goal.returns-then-n-eq2
-unfolding body
-returns-then-n-eq2 c = at_level c.if-n-eq2.true (steps (λ text T. (pass c.peek-k.ensures (c.if-k-eq-EQ_EQ.false, tt) tt (pass c.peek-k.ensures (c.if-k-eq-NEQ.false, tt) tt (pass c.peek-k.ensures (c.if-k-eq-LESS.false, tt) tt (pass c.peek-k.ensures (c.if-k-eq-GREATER.false, tt) tt (pass c.peek-k.ensures (c.if-k-eq-LESS_EQUAL.false, tt) tt ((one_step c.mark-then-n-eq2.ensures)))))))))
+returns-then-n-eq2 c = at_level c.if-n-eq2.true (steps (λ text T. (pass c.peek-k.ensures (c.if-k-eq-EQ_EQ.false, tt) tt (pass c.peek-k.ensures (c.if-k-eq-NEQ.false, tt) tt (pass c.peek-k.ensures (c.if-k-eq-LESS.false, tt) tt (pass c.peek-k.ensures (c.if-k-eq-GREATER.false, tt) tt (pass c.peek-k.ensures (c.if-k-eq-LESS_EQUAL.false, tt) tt (one_step c.mark-then-n-eq2.ensures))))))))
 
 pub returns-then-k-eq-BITWISE_AND : goal.returns-then-k-eq-BITWISE_AND
-unfolding body
-returns-then-k-eq-BITWISE_AND c = at_level c.if-n-eq3.true (steps (λ text T. (only c.peek-k.ensures c.if-k-eq-BITWISE_AND.true tt ((one_step c.mark-then-k-eq-BITWISE_AND.ensures)))))
+returns-then-k-eq-BITWISE_AND c = at_level c.if-n-eq3.true (steps (λ text T. (only c.peek-k.ensures c.if-k-eq-BITWISE_AND.true tt (one_step c.mark-then-k-eq-BITWISE_AND.ensures))))
 
 pub returns-then-k-eq-BITWISE_OR : goal.returns-then-k-eq-BITWISE_OR
-unfolding body
-returns-then-k-eq-BITWISE_OR c = at_level c.if-n-eq3.true (steps (λ text T. (pass c.peek-k.ensures (c.if-k-eq-BITWISE_AND.false, tt) tt (only c.peek-k.ensures c.if-k-eq-BITWISE_OR.true tt ((one_step c.mark-then-k-eq-BITWISE_OR.ensures))))))
+returns-then-k-eq-BITWISE_OR c = at_level c.if-n-eq3.true (steps (λ text T. (pass c.peek-k.ensures (c.if-k-eq-BITWISE_AND.false, tt) tt (only c.peek-k.ensures c.if-k-eq-BITWISE_OR.true tt (one_step c.mark-then-k-eq-BITWISE_OR.ensures)))))
 
 pub returns-then-n-eq3 : goal.returns-then-n-eq3
-unfolding body
-returns-then-n-eq3 c = at_level c.if-n-eq3.true (steps (λ text T. (pass c.peek-k.ensures (c.if-k-eq-BITWISE_AND.false, tt) tt (pass c.peek-k.ensures (c.if-k-eq-BITWISE_OR.false, tt) tt ((one_step c.mark-then-n-eq3.ensures))))))
+returns-then-n-eq3 c = at_level c.if-n-eq3.true (steps (λ text T. (pass c.peek-k.ensures (c.if-k-eq-BITWISE_AND.false, tt) tt (pass c.peek-k.ensures (c.if-k-eq-BITWISE_OR.false, tt) tt (one_step c.mark-then-n-eq3.ensures)))))
 
 pub returns-then-k-eq-AND_AND : goal.returns-then-k-eq-AND_AND
-unfolding body
-returns-then-k-eq-AND_AND c = above_level _ c.if-n-eq0.false c.if-n-eq1.false c.if-n-eq2.false c.if-n-eq3.false (steps (λ text T. (only c.peek-k.ensures c.if-k-eq-AND_AND.true tt ((one_step c.mark-then-k-eq-AND_AND.ensures)))))
+returns-then-k-eq-AND_AND c = above_level _ c.if-n-eq0.false c.if-n-eq1.false c.if-n-eq2.false c.if-n-eq3.false (steps (λ text T. (only c.peek-k.ensures c.if-k-eq-AND_AND.true tt (one_step c.mark-then-k-eq-AND_AND.ensures))))
 
 pub returns : goal.returns
-unfolding body
-returns c = above_level _ c.if-n-eq0.false c.if-n-eq1.false c.if-n-eq2.false c.if-n-eq3.false (steps (λ text T. (pass c.peek-k.ensures (c.if-k-eq-AND_AND.false, tt) tt ((one_step c.mark-2.ensures)))))
+returns c = above_level _ c.if-n-eq0.false c.if-n-eq1.false c.if-n-eq2.false c.if-n-eq3.false (steps (λ text T. (pass c.peek-k.ensures (c.if-k-eq-AND_AND.false, tt) tt (one_step c.mark-2.ensures))))

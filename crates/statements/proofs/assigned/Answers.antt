@@ -1,15 +1,12 @@
 -- `assigned` meets its contract. Assumes nothing.
-use Rattle.cursor.proofs.Reading.{body, one_step, ◌then◌, first, absent, pass, nothing}
+use Rattle.cursor.proofs.Reading.{one_step, ◌then◌, first, absent, pass, nothing}
 use Rattle.statements.proofs.assigned.Goals as goal
 
 pub returns-then-k-ne-EQ : goal.returns-then-k-ne-EQ
-unfolding body
-returns-then-k-ne-EQ c = (pass c.peek-k.ensures (c.if-k-ne-EQ.true, tt) tt (nothing))
+returns-then-k-ne-EQ c = pass c.peek-k.ensures (c.if-k-ne-EQ.true, tt) tt nothing
 
 pub returns-then-p-eq-FAILED : goal.returns-then-p-eq-FAILED
-unfolding body
 returns-then-p-eq-FAILED c = absent ((one_step c.take-p.ensures) then c.expr-p.ensures) c.if-p-eq-FAILED.true c.rewind.ensures
 
 pub returns : goal.returns
-unfolding body
 returns c = first ((one_step c.take-p.ensures) then c.expr-p.ensures) c.if-p-eq-FAILED.false

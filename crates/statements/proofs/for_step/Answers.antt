@@ -1,11 +1,7 @@
 -- `for_step` meets its contract. Assumes nothing.
-use Rattle.cursor.proofs.Reading.{refl, body, idle, one_put, ◌then◌, by_rule, nothing}
+use Rattle.cursor.proofs.Reading.{refl, body, one_put, ◌then◌, by_rule, nothing}
 use Rattle.grammar.specs.Derive as G
 use Rattle.statements.proofs.for_step.Goals as goal
-
-pub returns-then-cursor-ne-READING : goal.returns-then-cursor-ne-READING
-unfolding body
-returns-then-cursor-ne-READING c = idle c.if-cursor-ne-READING.true
 
 pub returns : goal.returns
 unfolding body

@@ -1,5 +1,5 @@
 -- The cycle of readers `alloc` meets its contract. Assumes nothing.
-use Rattle.cursor.proofs.Reading.{refl, ◌∙◌, arith, body, idle, one_put, one_step, ◌then◌, only, pass, by_part, inside_by, named, on, on_step, at_here, at_begin, at_rule, ◌and_on◌, further, lower, rounds_begin, rounds_next, entries_none, entries_end, entries_off}
+use Rattle.cursor.proofs.Reading.{refl, ◌∙◌, arith, body, one_put, one_step, ◌then◌, only, pass, by_part, inside_by, named, on, on_step, at_here, at_begin, at_rule, ◌and_on◌, further, lower, rounds_next, entries_none, entries_end, entries_off}
 use Rattle.grammar.specs.Derive as G
 use Rattle.expressions.proofs.alloc_types.+alloc.Goals as goal
 
@@ -10,41 +10,26 @@ pub alloc_at-returns : goal.alloc_at-returns
 unfolding body
 alloc_at-returns t c = inside_by c.begin-p.ensures (c.alloc_base-p.ensures then (one_put c.pointers-p.ensures)) c.ended.ensures
 
-pub alloc_base-returns-then-cursor-ne-READING : goal.alloc_base-returns-then-cursor-ne-READING
-unfolding body
-alloc_base-returns-then-cursor-ne-READING t c = idle c.if-cursor-ne-READING.true
-
 pub alloc_base-returns-then-k-eq-IDENTIFIER : goal.alloc_base-returns-then-k-eq-IDENTIFIER
-unfolding body
-alloc_base-returns-then-k-eq-IDENTIFIER t c = (only c.peek-k.ensures c.if-k-eq-IDENTIFIER.true tt (named c.type_name-name.ensures c.leaf.ensures))
+alloc_base-returns-then-k-eq-IDENTIFIER t c = only c.peek-k.ensures c.if-k-eq-IDENTIFIER.true tt (named c.type_name-name.ensures c.leaf.ensures)
 
 pub alloc_base-alloc_entries-p-requires : goal.alloc_base-alloc_entries-p-requires
 alloc_base-alloc_entries-p-requires t c = (further 6 3 c.decreases c.if-cursor-ne-READING.false (on_step c.take-p.ensures) tt (omega arith), tt)
 
 pub alloc_base-returns : goal.alloc_base-returns
-unfolding body
-alloc_base-returns t c = (pass c.peek-k.ensures (c.if-k-eq-IDENTIFIER.false, tt) tt ((one_step c.take-p.ensures) then c.alloc_entries-p.ensures then (one_put c.tuple_end.ensures)))
-
-pub alloc_entries-returns-then-cursor-ne-READING : goal.alloc_entries-returns-then-cursor-ne-READING
-unfolding body
-alloc_entries-returns-then-cursor-ne-READING t c = idle c.if-cursor-ne-READING.true
+alloc_base-returns t c = pass c.peek-k.ensures (c.if-k-eq-IDENTIFIER.false, tt) tt ((one_step c.take-p.ensures) then c.alloc_entries-p.ensures then (one_put c.tuple_end.ensures))
 
 pub alloc_entries-alloc_type_expr-p-requires : goal.alloc_entries-alloc_type_expr-p-requires
-alloc_entries-alloc_type_expr-p-requires t c = (lower 5 6 c.decreases c.if-cursor-ne-READING.false (at_here) (omega arith), tt)
+alloc_entries-alloc_type_expr-p-requires t c = (lower 5 6 c.decreases c.if-cursor-ne-READING.false at_here (omega arith), tt)
 
 pub alloc_entries-returns-then-p-eq-FAILED : goal.alloc_entries-returns-then-p-eq-FAILED
-unfolding body
-alloc_entries-returns-then-p-eq-FAILED t c = entries_none (c.alloc_type_expr-p.ensures) c.if-p-eq-FAILED.true c.rewind.ensures
-
-pub alloc_entries-loop-p-init : goal.alloc_entries-loop-p-init
-alloc_entries-loop-p-init t c = rounds_begin
+alloc_entries-returns-then-p-eq-FAILED t c = entries_none c.alloc_type_expr-p.ensures c.if-p-eq-FAILED.true c.rewind.ensures
 
 pub alloc_entries-alloc_type_expr-q-requires : goal.alloc_entries-alloc_type_expr-q-requires
 alloc_entries-alloc_type_expr-q-requires t c = (further 5 6 c.decreases c.if-cursor-ne-READING.false (on c.alloc_type_expr-p.ensures and_on c.loop-p.invariant.on and_on on_step c.take-q.ensures) tt (omega arith), tt)
 
 pub alloc_entries-returns-then-q-eq-FAILED : goal.alloc_entries-returns-then-q-eq-FAILED
-unfolding body
-alloc_entries-returns-then-q-eq-FAILED t c = entries_end (c.alloc_type_expr-p.ensures) c.if-p-eq-FAILED.false c.loop-p.invariant c.loop-p-test.true ((one_step c.take-q.ensures) then c.alloc_type_expr-q.ensures) c.if-q-eq-FAILED.true c.rewind-then-q-eq-FAILED.ensures
+alloc_entries-returns-then-q-eq-FAILED t c = entries_end c.alloc_type_expr-p.ensures c.if-p-eq-FAILED.false c.loop-p.invariant c.loop-p-test.true ((one_step c.take-q.ensures) then c.alloc_type_expr-q.ensures) c.if-q-eq-FAILED.true c.rewind-then-q-eq-FAILED.ensures
 
 pub alloc_entries-loop-p-smaller : goal.alloc_entries-loop-p-smaller
 alloc_entries-loop-p-smaller t c = further 0 0 refl c.loop-p-test.true (on_step c.take-q.ensures and_on on c.alloc_type_expr-q.ensures) tt (omega arith)
@@ -53,16 +38,10 @@ pub alloc_entries-loop-p-preserved : goal.alloc_entries-loop-p-preserved
 alloc_entries-loop-p-preserved t c = rounds_next c.loop-p.invariant ((one_step c.take-q.ensures) then c.alloc_type_expr-q.ensures) c.if-q-eq-FAILED.false (c.alloc_type_expr-q.auto.nodes ∙ c.loop-p.invariant.kept)
 
 pub alloc_entries-returns : goal.alloc_entries-returns
-unfolding body
-alloc_entries-returns t c = entries_off (c.alloc_type_expr-p.ensures) c.if-p-eq-FAILED.false c.loop-p.invariant c.loop-p-test.false
-
-pub alloc_type_expr-returns-then-cursor-ne-READING : goal.alloc_type_expr-returns-then-cursor-ne-READING
-unfolding body
-alloc_type_expr-returns-then-cursor-ne-READING t c = idle c.if-cursor-ne-READING.true
+alloc_entries-returns t c = entries_off c.alloc_type_expr-p.ensures c.if-p-eq-FAILED.false c.loop-p.invariant c.loop-p-test.false
 
 pub alloc_type_expr-alloc_at-q-requires : goal.alloc_type_expr-alloc_at-q-requires
 alloc_type_expr-alloc_at-q-requires t c = (lower 4 5 c.decreases c.if-cursor-ne-READING.false (at_rule c.if-cursor-ne-READING.false) (omega arith), tt)
 
 pub alloc_type_expr-returns : goal.alloc_type_expr-returns
-unfolding body
 alloc_type_expr-returns t c = by_part G.alloc (record { upto = omega (arith, c.deeper.ensures) }) c.if-cursor-ne-READING.false c.alloc_at-q.ensures c.join.ensures

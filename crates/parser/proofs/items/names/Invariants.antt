@@ -4,7 +4,7 @@ use Rattle.grammar.specs.Grammar as L
 use Rattle.parser.proofs.items.names.Given as goal
 
 abbrev pub invariant-loop-p : goal.invariant-loop-p
-invariant-loop-p l = (text : List ℕ) → Listing text l.tokens (L.name) l.initial.p l.initial.nodes l.p l.nodes
+invariant-loop-p l = (text : List ℕ) → Listing text l.tokens L.name l.initial.p l.initial.nodes l.p l.nodes
 
 abbrev pub decreases-loop-p : goal.decreases-loop-p
 decreases-loop-p l = size l.tokens l.p 0

@@ -1,11 +1,7 @@
 -- `param` meets its contract. Assumes nothing.
-use Rattle.cursor.proofs.Reading.{refl, body, idle, one_put, one_grown, one_step, ◌then◌, by_rule}
+use Rattle.cursor.proofs.Reading.{refl, body, one_put, one_grown, one_step, ◌then◌, by_rule}
 use Rattle.grammar.specs.Derive as G
 use Rattle.parser.proofs.items.param.Goals as goal
-
-pub returns-then-cursor-ne-READING : goal.returns-then-cursor-ne-READING
-unfolding body
-returns-then-cursor-ne-READING c = idle c.if-cursor-ne-READING.true
 
 pub returns : goal.returns
 unfolding body

@@ -1,12 +1,8 @@
 -- `segments` meets its contract. Assumes nothing.
-use Rattle.cursor.proofs.Reading.{refl, ◌∙◌, [], arith, body, puts, one_put, one_step, one_free, ◌then◌, on_put, on_step, on_free, ◌and_on◌, further, rounds_begin, rounds_next, rounds_end, rounds_off}
+use Rattle.cursor.proofs.Reading.{refl, ◌∙◌, [], arith, puts, one_put, one_step, one_free, ◌then◌, on_put, on_step, on_free, ◌and_on◌, further, rounds_next, rounds_end, rounds_off}
 use Rattle.parser.proofs.items.segments.Goals as goal
 
-pub loop-p-init : goal.loop-p-init
-loop-p-init c = λ text. rounds_begin
-
 pub returns-then-q-eq-FAILED : goal.returns-then-q-eq-FAILED
-unfolding body
 returns-then-q-eq-FAILED c = puts (λ text. rounds_end (c.loop-p.invariant text) c.loop-p-test.true ((one_step c.take-q.ensures) then (one_put c.spanned_ident-q.ensures) then (one_free c.tick-q.ensures)) c.if-q-eq-FAILED.true c.rewind.ensures)
 
 pub loop-p-smaller : goal.loop-p-smaller
@@ -16,5 +12,4 @@ pub loop-p-preserved : goal.loop-p-preserved
 loop-p-preserved c = λ text. rounds_next (c.loop-p.invariant text) ((one_step c.take-q.ensures) then (one_put c.spanned_ident-q.ensures) then (one_free c.tick-q.ensures)) c.if-q-eq-FAILED.false (c.spanned_ident-q.auto.nodes ∙ (c.loop-p.invariant []).kept)
 
 pub returns : goal.returns
-unfolding body
 returns c = puts (λ text. rounds_off (c.loop-p.invariant text) c.loop-p-test.false)

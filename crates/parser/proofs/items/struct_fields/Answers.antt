@@ -1,24 +1,18 @@
 -- `struct_fields` meets its contract. Assumes nothing.
-use Rattle.cursor.proofs.Reading.{refl, arith, body, on, on_step, ◌and_on◌, further, listing_begin, listing_next, listing_none, listing_miss, listing_off}
+use Rattle.cursor.proofs.Reading.{refl, arith, on, on_step, ◌and_on◌, further, listing_next, listing_none, listing_miss, listing_off}
 use Rattle.parser.proofs.items.struct_fields.Goals as goal
 
-pub loop-p-init : goal.loop-p-init
-loop-p-init c = listing_begin
-
 pub returns-then-q-eq-FAILED : goal.returns-then-q-eq-FAILED
-unfolding body
-returns-then-q-eq-FAILED c = listing_none c.loop-p.invariant c.loop-p-test.true (c.struct_field-q.ensures) c.if-q-eq-FAILED.true c.rewind.ensures
+returns-then-q-eq-FAILED c = listing_none c.loop-p.invariant c.loop-p-test.true c.struct_field-q.ensures c.if-q-eq-FAILED.true c.rewind.ensures
 
 pub returns-then-k-ne-COMMA : goal.returns-then-k-ne-COMMA
-unfolding body
-returns-then-k-ne-COMMA c = listing_miss tt c.loop-p.invariant (c.struct_field-q.ensures) c.if-q-eq-FAILED.false c.struct_field-q.auto.nodes c.peek-k.ensures c.if-k-ne-COMMA.true
+returns-then-k-ne-COMMA c = listing_miss tt c.loop-p.invariant c.struct_field-q.ensures c.if-q-eq-FAILED.false c.struct_field-q.auto.nodes c.peek-k.ensures c.if-k-ne-COMMA.true
 
 pub loop-p-smaller : goal.loop-p-smaller
 loop-p-smaller c = further 0 0 refl c.loop-p-test.true (on c.struct_field-q.ensures and_on on_step c.take-p.ensures) tt (omega arith)
 
 pub loop-p-preserved : goal.loop-p-preserved
-loop-p-preserved c = listing_next c.loop-p.invariant (c.struct_field-q.ensures) c.if-q-eq-FAILED.false c.struct_field-q.auto.nodes c.peek-k.ensures c.if-k-ne-COMMA.false c.take-p.ensures
+loop-p-preserved c = listing_next c.loop-p.invariant c.struct_field-q.ensures c.if-q-eq-FAILED.false c.struct_field-q.auto.nodes c.peek-k.ensures c.if-k-ne-COMMA.false c.take-p.ensures
 
 pub returns : goal.returns
-unfolding body
 returns c = listing_off c.loop-p.invariant c.loop-p-test.false

@@ -1,17 +1,12 @@
 -- The cycle of readers `patterns` meets its contract. Assumes nothing.
-use Rattle.cursor.proofs.Reading.{refl, ◌∙◌, arith, body, idle, one_put, one_grown, one_step, ◌then◌, only, pass, by_part, inside_by, on, on_step, at_begin, at_rule, ◌and_on◌, was, further, lower, rounds_begin, rounds_next, rounds_end, rounds_off}
+use Rattle.cursor.proofs.Reading.{refl, ◌∙◌, arith, body, idle, one_put, one_grown, one_step, ◌then◌, only, pass, by_part, inside_by, on, on_step, at_begin, at_rule, ◌and_on◌, was, further, lower, rounds_next, rounds_end, rounds_off}
 use Rattle.grammar.specs.Derive as G
 use Rattle.statements.proofs.let_pattern.+patterns.Goals as goal
-
-pub pattern-returns-then-cursor-ne-READING : goal.pattern-returns-then-cursor-ne-READING
-unfolding body
-pattern-returns-then-cursor-ne-READING t c = idle c.if-cursor-ne-READING.true
 
 pub pattern-pattern_at-q-requires : goal.pattern-pattern_at-q-requires
 pattern-pattern_at-q-requires t c = (lower 3 4 c.decreases c.if-cursor-ne-READING.false (at_rule c.if-cursor-ne-READING.false) (omega arith), tt)
 
 pub pattern-returns : goal.pattern-returns
-unfolding body
 pattern-returns t c = by_part G.pattern (record { upto = omega (arith, c.deeper.ensures) }) c.if-cursor-ne-READING.false c.pattern_at-q.ensures c.join.ensures
 
 pub pattern_at-pattern-p-requires : goal.pattern_at-pattern-p-requires
@@ -33,16 +28,12 @@ pattern_at-returns-then-k-eq-L_PAREN t c = inside_by c.begin-start.ensures (only
 
 pub pattern_at-returns : goal.pattern_at-returns
 unfolding body
-pattern_at-returns t c = inside_by c.begin-start.ensures (pass c.peek-k.ensures (c.if-k-eq-L_PAREN.false, tt) tt ((one_put c.spanned_ident-p.ensures))) c.ended-2.ensures
-
-pub patterns-loop-p-init : goal.patterns-loop-p-init
-patterns-loop-p-init t c = rounds_begin
+pattern_at-returns t c = inside_by c.begin-start.ensures (pass c.peek-k.ensures (c.if-k-eq-L_PAREN.false, tt) tt (one_put c.spanned_ident-p.ensures)) c.ended-2.ensures
 
 pub patterns-pattern-q-requires : goal.patterns-pattern-q-requires
 patterns-pattern-q-requires t c = (further 4 5 c.decreases (was c.loop-p.invariant.on c.loop-p-test.true) (c.loop-p.invariant.on and_on on_step c.take-q.ensures) tt (omega arith), tt)
 
 pub patterns-returns-then-q-eq-FAILED : goal.patterns-returns-then-q-eq-FAILED
-unfolding body
 patterns-returns-then-q-eq-FAILED t c = rounds_end c.loop-p.invariant c.loop-p-test.true ((one_step c.take-q.ensures) then c.pattern-q.ensures) c.if-q-eq-FAILED.true c.rewind.ensures
 
 pub patterns-loop-p-smaller : goal.patterns-loop-p-smaller
@@ -52,5 +43,4 @@ pub patterns-loop-p-preserved : goal.patterns-loop-p-preserved
 patterns-loop-p-preserved t c = rounds_next c.loop-p.invariant ((one_step c.take-q.ensures) then c.pattern-q.ensures) c.if-q-eq-FAILED.false (c.pattern-q.auto.nodes ∙ c.loop-p.invariant.kept)
 
 pub patterns-returns : goal.patterns-returns
-unfolding body
 patterns-returns t c = rounds_off c.loop-p.invariant c.loop-p-test.false

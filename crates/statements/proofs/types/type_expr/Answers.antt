@@ -1,12 +1,7 @@
 -- `type_expr` meets its contract. Assumes nothing.
-use Rattle.cursor.proofs.Reading.{arith, body, idle, by_part}
+use Rattle.cursor.proofs.Reading.{arith, by_part}
 use Rattle.grammar.specs.Derive as G
 use Rattle.statements.proofs.types.type_expr.Goals as goal
 
-pub returns-then-cursor-ne-READING : goal.returns-then-cursor-ne-READING
-unfolding body
-returns-then-cursor-ne-READING c = idle c.if-cursor-ne-READING.true
-
 pub returns : goal.returns
-unfolding body
 returns c = by_part G.type (record { upto = omega (arith, c.deeper.ensures) }) c.if-cursor-ne-READING.false c.type_at-q.ensures c.join.ensures
