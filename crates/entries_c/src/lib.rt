@@ -37,13 +37,7 @@ pub extern "C" fn cairo_m_lex(
 ) -> u32
     ensures { LexIs text.now (length tokens.old) (length diagnostics.old) tokens.new diagnostics.new result token_count.new diagnostic_count.new }
 {
-    entries::cairo_m_lex(
-        text,
-        tokens,
-        diagnostics,
-        token_count,
-        diagnostic_count,
-    )
+    entries::cairo_m_lex(text, tokens, diagnostics, token_count, diagnostic_count)
 }
 
 // A text from bytes to nodes.

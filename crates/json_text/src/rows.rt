@@ -22,6 +22,7 @@ fn put_name(names: &[u8], kind: u8, out: &mut [u8], at: usize) -> usize
 }
 
 // Past 2^53 - 1, where 64-bit floats skip numbers, a string.
+#[tactic(auto, using(crate::proofs::Fields::value_number))]
 fn put_value(out: &mut [u8], at: usize, value: u64) -> usize
     ensures { Writes (value_text value) at out.old result out.new }
 {
@@ -42,6 +43,7 @@ fn put_next(out: &mut [u8], at: usize, n: u64) -> usize
 }
 
 // The base, on Count and the three literals alone.
+#[tactic(auto, using(crate::proofs::Fields::sixth_low, crate::proofs::Fields::sixth_high, crate::proofs::Fields::sixth_base))]
 fn put_base(out: &mut [u8], at: usize, kind: u8, base: u8) -> usize
     ensures { Writes (added (sixth kind base)) at out.old result out.new }
 {
