@@ -6,7 +6,7 @@ use mathlib.Core.Bool.{Bool, true, false, cond}
 use mathlib.Core.List.{List, [], ◌∷◌, ◌++◌, append_assoc, Memᴰ}
 use lib.Dec.{eqb}
 use borrow.Author.Tests.{eqb-true}
-use Rattle.tables.specs.TokenKinds.{ANDAND, OROR, AND, OR, XOR, EQEQ, NEQ, Le, GE, Lt, GT, PLUS, MINUS, MUL, DIV, MOD}
+use Rattle.tables.specs.TokenKinds.{ANDAND, OROR, AND, OR, XOR, EQEQ, NEQ, LE, GE, LT, GT, PLUS, MINUS, MUL, DIV, MOD}
 use Rattle.grammar.specs.Kinds.{Binary}
 use Rattle.grammar.specs.Derive.{Node, Input, token, R, expr, level, G, ◌or◌, many, rule, S, Out, got, none, part, next, marked, closed, yields, enter, leave}
 use Rattle.grammar.specs.Derive.{Derives, stepped, and_then, or_first, or_else, no_more, one_more, ruled}
@@ -20,7 +20,7 @@ use Rattle.grammar.proofs.On.{on_of}
 abbrev pub operators : ℕ → List (ℕ × ℕ)
 operators zero = (MUL, 2) ∷ (DIV, 3) ∷ (MOD, 4) ∷ []
 operators (suc zero) = (PLUS, 0) ∷ (MINUS, 1) ∷ []
-operators (suc (suc zero)) = (EQEQ, 5) ∷ (NEQ, 6) ∷ (Lt, 7) ∷ (GT, 8) ∷ (Le, 9) ∷ (GE, 10) ∷ []
+operators (suc (suc zero)) = (EQEQ, 5) ∷ (NEQ, 6) ∷ (LT, 7) ∷ (GT, 8) ∷ (LE, 9) ∷ (GE, 10) ∷ []
 operators (suc (suc (suc zero))) = (AND, 13) ∷ (OR, 14) ∷ (XOR, 15) ∷ []
 operators (suc (suc (suc (suc n)))) = (ANDAND, 11) ∷ (OROR, 12) ∷ []
 

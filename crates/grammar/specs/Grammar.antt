@@ -1,7 +1,7 @@
 -- The grammar of Cairo-M, to be held beside parser.rs: each rule has the tokens and the order that it has there, and the comment says which expression of parser.rs or which words of 01 it states. Assumes nothing.
 use Rattle.std.specs.Prelude.{ℕ, zero, suc, ◌<◌, ◌≡◌, List, length}
 use Rattle.tables.specs.TokenKinds.{NUMBER, AS, CONST, ELSE, FALSE, FN, IF, LET, NEW, RETURN, STRUCT, TRUE, WHILE, LOOP, FOR, BREAK, CONTINUE, USE, IDENT}
-use Rattle.tables.specs.TokenKinds.{NOT, ANDAND, OROR, AND, OR, XOR, EQEQ, NEQ, Le, GE, Lt, GT, PLUS, MINUS, MUL, DIV, MOD, EQ, ARROW}
+use Rattle.tables.specs.TokenKinds.{NOT, ANDAND, OROR, AND, OR, XOR, EQEQ, NEQ, LE, GE, LT, GT, PLUS, MINUS, MUL, DIV, MOD, EQ, ARROW}
 use Rattle.tables.specs.TokenKinds.{LPAREN, RPAREN, LBRACE, RBRACE, LBRACK, RBRACK, COMMA, SEMI, COLON, COLONCOLON, DOT}
 use Rattle.grammar.specs.Kinds.{Name, Pointer, TypeTuple, FixedArray, Bool·, Identifier, Unary, Binary, Call, Member, Index, StructLiteral}
 use Rattle.grammar.specs.Kinds.{Tuple, TupleIndex, Array, ArrayRepeat, Cast, New, Paren, PatternTuple, Let, Const, Assign, Return, If, ExprStmt}
@@ -154,7 +154,7 @@ postfix =
 abbrev pub operator : ℕ → G
 operator zero = op MUL 2 or op DIV 3 or op MOD 4
 operator (suc zero) = op PLUS 0 or op MINUS 1
-operator (suc (suc zero)) = op EQEQ 5 or op NEQ 6 or op Lt 7 or op GT 8 or op Le 9 or op GE 10
+operator (suc (suc zero)) = op EQEQ 5 or op NEQ 6 or op LT 7 or op GT 8 or op LE 9 or op GE 10
 operator (suc (suc (suc zero))) = op AND 13 or op OR 14 or op XOR 15
 operator (suc (suc (suc (suc n)))) = op ANDAND 11 or op OROR 12
 

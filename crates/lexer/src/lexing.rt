@@ -65,9 +65,9 @@ fn step(
 ) -> Item
     requires at_in_bounds { at ≤ length text.now }
     requires begun { Begun (drop at text.now) c }
-    requires table { Table class_of classes.now }
-    requires table_2 { Table next_of nexts.now }
-    requires table_3 { Table pair_of pairs.now }
+    requires class_table { Table class_of classes.now }
+    requires next_table { Table next_of nexts.now }
+    requires pair_table { Table pair_of pairs.now }
     requires key_table { KeyTable keys.now }
     ensures { Stepped text.now at result }
 {
@@ -138,9 +138,9 @@ fn pass(
     keys: &[u8; 436],
 ) -> Lexed
     requires text_len_bound { length text.now ≤ 65535 }
-    requires table { Table class_of classes.now }
-    requires table_2 { Table next_of nexts.now }
-    requires table_3 { Table pair_of pairs.now }
+    requires class_table { Table class_of classes.now }
+    requires next_table { Table next_of nexts.now }
+    requires pair_table { Table pair_of pairs.now }
     requires key_table { KeyTable keys.now }
     ensures { LexedIs text.now (length tokens.old) (length diagnostics.old) tokens.new diagnostics.new result }
 {
@@ -204,6 +204,7 @@ fn pass(
     }
 }
 
+#[tactic(auto, using(crate::proofs::Going::not_short))]
 pub fn lex(text: &[u8], tokens: &mut [u8], diagnostics: &mut [u8]) -> Lexed
     ensures { LexedIs text.now (length tokens.old) (length diagnostics.old) tokens.new diagnostics.new result }
 {

@@ -24,7 +24,7 @@ pub enum Found {
 // How many of the first m bytes are letters, digits or `_`, up to one that is none.
 fn word_within(t: &[u8], m: usize, classes: &[u8; 256]) -> usize
     requires m_in_bounds { m ≤ length t.now }
-    requires table { Table class_of classes.now }
+    requires class_table { Table class_of classes.now }
     ensures { result ≡ min (run (in_set word) t.now) m }
 {
     let mut n = 0;
@@ -144,8 +144,8 @@ fn keyword(w: &[u8], keys: &[u8]) -> u8
 
 // The mark of two bytes that b and d are, or 0.
 fn pair_of(b: u8, d: u8, nexts: &[u8; 256], pairs: &[u8; 256]) -> u8
-    requires table { Table next_of nexts.now }
-    requires table_2 { Table pair_of pairs.now }
+    requires next_table { Table next_of nexts.now }
+    requires pair_table { Table pair_of pairs.now }
     ensures { KindIs 21 50 0 (b ∷ d ∷ []) result }
 {
     if nexts[b as usize] != d {
@@ -187,9 +187,9 @@ pub(crate) fn scan(
     keys: &[u8; 436],
 ) -> Found
     requires begun { Begun t.now c }
-    requires table { Table class_of classes.now }
-    requires table_2 { Table next_of nexts.now }
-    requires table_3 { Table pair_of pairs.now }
+    requires class_table { Table class_of classes.now }
+    requires next_table { Table next_of nexts.now }
+    requires pair_table { Table pair_of pairs.now }
     requires key_table { KeyTable keys.now }
     ensures { Scanned t.now result }
 {

@@ -31,8 +31,8 @@ struct Step {
 fn part(line: &[u8], at: usize, text: &mut [u8], n: usize, last: u8) -> Step
     requires at_in_bounds { at < length line.now }
     requires n_in_bounds { n ≤ length text.old }
-    ensures at_lt_at { at < result.at }
-    ensures n_in_bounds_2 { result.n ≤ length text.new }
+    ensures further { at < result.at }
+    ensures within { result.n ≤ length text.new }
 {
     if line[at] == b'*' {
         let run = number(line, at + 1);

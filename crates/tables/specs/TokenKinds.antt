@@ -85,14 +85,14 @@ EQEQ = 27
 abbrev pub NEQ : ℕ
 NEQ = 28
 
-abbrev pub Le : ℕ
-Le = 29
+abbrev pub LE : ℕ
+LE = 29
 
 abbrev pub GE : ℕ
 GE = 30
 
-abbrev pub Lt : ℕ
-Lt = 31
+abbrev pub LT : ℕ
+LT = 31
 
 abbrev pub GT : ℕ
 GT = 32

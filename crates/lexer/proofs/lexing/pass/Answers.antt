@@ -18,7 +18,7 @@ pub loop-at-preserved-then-c-eq-WHITE : goal.loop-at-preserved-then-c-eq-WHITE
 loop-at-preserved-then-c-eq-WHITE c = search (rules, going_white, (c.type_inv.text c.loop-at.at).fits)
 
 pub step-item-requires : goal.step-item-requires
-step-item-requires c = record { at_in_bounds = search rules; begun = begun_at c.args.text.now c.loop-at.at c.requires.table (c.type_inv.text c.loop-at.at).fits (search rules) (search); table = search; table_2 = search; table_3 = search; key_table = search }
+step-item-requires c = record { at_in_bounds = search rules; begun = begun_at c.args.text.now c.loop-at.at c.requires.class_table (c.type_inv.text c.loop-at.at).fits (search rules) (search); class_table = search; next_table = search; pair_table = search; key_table = search }
 
 pub loop-at-smaller-in-Skipped : goal.loop-at-smaller-in-Skipped
 loop-at-smaller-in-Skipped c = let h = turned c.in-Skipped.ensures _ refl in omega arith

@@ -16,7 +16,7 @@ pub slice_bounds-word_within-count : goal.slice_bounds-word_within-count
 slice_bounds-word_within-count c = c.loop-i.invariant.within
 
 pub word_within-n-requires : goal.word_within-n-requires
-word_within-n-requires c = record { m_in_bounds = simp (length-take, length-drop) (omega arith); table = search rules }
+word_within-n-requires c = record { m_in_bounds = simp (length-take, length-drop) (omega arith); class_table = search rules }
 
 pub overflow_add-result : goal.overflow_add-result
 overflow_add-result c = omega (arith, c.loop-i.invariant.within)
@@ -40,7 +40,7 @@ pub overflow_sub-t-2 : goal.overflow_sub-t-2
 overflow_sub-t-2 c = c.loop-i.invariant.within
 
 pub word_within-requires : goal.word_within-requires
-word_within-requires c = record { m_in_bounds = simp (length-take, length-drop) (omega arith); table = search rules }
+word_within-requires c = record { m_in_bounds = simp (length-take, length-drop) (omega arith); class_table = search rules }
 
 pub overflow_add-result-2 : goal.overflow_add-result-2
 overflow_add-result-2 c = omega (arith, c.word_within.ensures, c.loop-i.invariant.within)

@@ -13,10 +13,10 @@ pub bounds-classes-t : goal.bounds-classes-t
 bounds-classes-t c = (c.type_inv.t c.loop-n.n).fits
 
 pub returns-then-classes-t-lt-LETTER : goal.returns-then-classes-t-lt-LETTER
-returns-then-classes-t-lt-LETTER c = omega (arith, word_stop c.requires.table (omega arith) (c.type_inv.t _).fits c.loop-n.invariant.0 c.if-classes-t-lt-LETTER.true)
+returns-then-classes-t-lt-LETTER c = omega (arith, word_stop c.requires.class_table (omega arith) (c.type_inv.t _).fits c.loop-n.invariant.0 c.if-classes-t-lt-LETTER.true)
 
 pub loop-n-preserved : goal.loop-n-preserved
-loop-n-preserved c = (word_more c.requires.table (omega arith) (c.type_inv.t _).fits c.loop-n.invariant.0 c.if-classes-t-lt-LETTER.false, omega arith)
+loop-n-preserved c = (word_more c.requires.class_table (omega arith) (c.type_inv.t _).fits c.loop-n.invariant.0 c.if-classes-t-lt-LETTER.false, omega arith)
 
 pub returns : goal.returns
 returns c = omega (arith, c.loop-n.invariant.0.so_far, c.loop-n.invariant.1)
