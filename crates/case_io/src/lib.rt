@@ -1,4 +1,4 @@
-// What the programs that run test cases share: reading a file of cases, writing the answers, looking through a table's bytes.
+// What the programs share: reading their input, writing answers, looking through a table's bytes.
 // The contracts say what keeps a caller safe. What is read and written is held to the case files.
 #![tactic(auto)]
 
