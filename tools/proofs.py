@@ -23,9 +23,11 @@ TEXTED = ("Reads", "Inside", "Ends", "")
 OWN = {"Reads": "", "Puts": "λ text. ", "Grown": "λ text w. ", "Step": "λ text T. ", "Free": "λ text w T. "}
 MAKE = {"Puts": "puts", "Grown": "grown", "Step": "steps", "Free": "free"}
 # calls that read nothing by themselves
-PLAIN = ("rewind", "enter", "leave", "skip", "peek", "second", "begin", "ended", "ended_with", "join", "deeper", "type_name")
+PLAIN = ("rewind", "enter", "leave", "skip", "peek", "second", "is", "is_among", "of", "begin", "ended", "ended_with", "join", "deeper", "type_name")
 # a reader that begins so does nothing where nothing is being read
-IDLE = re.compile(r"\s*if cursor\.status != READING \{\n        return cursor(\.ended_with\(false\))?;")
+# a test by a call, or by one that is denied: the law for what it tells where it holds and where it does not
+TELLS = {"eq": ("same", "not_same"), "ne": ("differs", "no_other"), "is": ("of_kind", "not_of_kind")}
+IDLE = re.compile(r"\s*if cursor\.status != Status::Reading \{\n        return cursor(\.ended_with\(false\))?;")
 # a name in a term; after = it is what a call ensures, as it stands
 NAME = re.compile(r"(?<![\w.·=-])(=?)([a-z]\w*₀?)(?![\w·-])")
 
@@ -34,7 +36,7 @@ class Fn:
     """A function of the source: its crate and module, parameters, the relation and grammar that its contract has, and its body."""
     def __init__(self, crate, module, name, params, head, body, names):
         self.crate, self.module, self.name, self.params, self.body, self.names = crate, module, name, params, body, names
-        m = re.search(r"ensures \{ (?:Wanted kind \()?(\w+) (\w+|\(.*?\)) (?:text|tokens|cursor|self|\(begun|at)\b", head)
+        m = re.search(r"ensures \{ (\w+) (\w+|\(.*?\)) (?:source|tokens|cursor|self|\(begun|at)\b", head)
         self.relation, self.grammar = (m.group(1), m.group(2)) if m else ("", "")
 
 
@@ -44,7 +46,7 @@ def source():
         text = open(path).read()
         module = os.path.basename(path)[:-3]
         names = {n.strip(): u.group(1) for u in re.finditer(r"ghost use Rattle\.grammar\.specs\.(\w+)\.\{(.*?)\}", text) for n in u.group(2).split(",")}
-        for m in re.finditer(r"^( *)(?:pub |pub\(crate\) )?fn (\w+)\((.*?)\)(?: -> [^\n]*)?\n(.*?)^\1\{\n(.*?)^\1\}\n", text, re.M | re.S):
+        for m in re.finditer(r"^( *)(?:pub |pub\(crate\) )?fn (\w+)(?:<\w+: \w+>)?\((.*?)\)(?: -> [^\n]*)?\n(.*?)^\1\{\n(.*?)^\1\}\n", text, re.M | re.S):
             params = [p.split(":")[0].replace("mut ", "").strip() for p in m.group(3).split(",") if p.strip()]
             assert m.group(2) not in fns, m.group(2)
             fns[m.group(2)] = Fn(crate, "" if module == "lib" else module + "/", m.group(2), params, m.group(4), m.group(5), names)
@@ -81,8 +83,11 @@ class Places:
     def fact(self, step):
         """the path of what a step ensures, says or keeps"""
         name = step.split(".")[0]
-        says = step.split(".")[1] if "." in step else "invariant" if re.fullmatch(r"loop\d*", name) else "ensures"
-        return f"c.{self.steps[name]}.{says}"
+        says = step.split(".")[1] if "." in step else "invariant" if re.fullmatch(r"loop\d*", name) else "is" if name.startswith("arm_") else "ensures"
+        path, call = (self.steps[name].split(":") + [""])[:2]
+        if not call: return f"c.{path}.{says}"
+        law = TELLS.get(call.lstrip("!"), ("", ""))[(says == "false") != call.startswith("!")]
+        return f"({law} c.{path}.ensures)" if law else f"c.{path}.ensures"
 
 
 def places():
@@ -111,7 +116,12 @@ def told(says, members):
             _, before, (old, new), call, _ = at[place]
             step = old.replace("-", "_")
             test = re.fullmatch(r"if\d+|loop_test", step)
-            if test or call or re.fullmatch(r"loop\d*", step):
+            # a test by a call is written with the call, and ! where it is denied
+            asked = test and (at[before][3] or "").split("::")[-1]
+            m = asked and re.fullmatch(rf"if-(not-)?{asked}(?:-\d+)?|loop-\w+-test", new)
+            if m: new += ":" + ("!" if m.group(1) else "") + asked
+            if step == "match": step = "arm_" + re.split("[-_]", new)[1]
+            if test or call or re.fullmatch(r"loop\d*|arm_\w+", step):
                 p.steps[step] = new
                 known.append(f"{step}.{'true' if re.match(r'(Then|In-)', place) else 'false'}" if test else step)
             place = before
@@ -143,7 +153,7 @@ def qualified(fn, grammar):
 def calls(body):
     """the calls of a function, by name and count, with their places"""
     seen, out = {}, []
-    for m in re.finditer(r"(?:\.|(?<![\w:]))(\w+)\((?=[^)])|\.(\w+)\(\)", body):
+    for m in re.finditer(r"(?:\.|(?<![\w:]))(\w+)(?:::<\w+>)?\((?=[^)])|\.(\w+)\(\)", body):
         f = m.group(1) or m.group(2)
         if f not in FNS: continue
         seen[f] = seen.get(f, 0) + 1
@@ -158,8 +168,8 @@ def shape(fn, recipe):
     later = lambda n: f"returns-{n + (1 if idle else 0)}" if n + (1 if idle else 0) > 1 else "returns"
     joint = " then_ends " if fn.relation == "Ends" else " then "
     run = lambda a, b: joint.join(c for c, i in cs if a <= i < b and c not in PLAIN)
-    if "while p.status == READING" in body and fn.grammar:
-        start, test = body.index("while p.status"), body.index("if q.status == FAILED")
+    if "while p.status == Status::Reading" in body and fn.grammar:
+        start, test = body.index("while p.status"), body.index("if q.status == Status::Failed")
         m = re.match(r"\((many|list|fields|entries) (.*)\)$", fn.grammar)
         inner = qualified(fn, m.group(2)) if m else ""
         kind = m.group(1) if m else "many"
@@ -168,10 +178,10 @@ def shape(fn, recipe):
         r.setdefault("round", run(start, test))
         # the returns from the loop on
         on = lambda n: "returns" if n + body[:start].count("return ") == 1 else f"returns-{n + body[:start].count('return ')}"
-        look = re.search(r"let k = p\.peek\(tokens\);\n\s+if k (==|!=) ", body[start:test])
+        look = re.search(r"let k = p\.peek\((?:source\.)?tokens\);\n\s+if (!?)k\.is\(", body[start:test])
         n = 2 if look else 1
         if kind == "many" and "&" not in fn.grammar:
-            if look: r.setdefault(on(1), "rounds_miss LOOP =peek (OUT, tt) tt" if look.group(1) == "!=" else "rounds_before LOOP =peek OUT tt")
+            if look: r.setdefault(on(1), "rounds_miss LOOP =peek (OUT, tt) tt" if look.group(1) else "rounds_before LOOP =peek OUT tt")
             r.setdefault(on(n), "rounds_end LOOP TEST ROUND OUT BACK"); r.setdefault(on(n + 1), "rounds_off LOOP OUT")
         elif kind in ("list", "fields"):
             peek = next(c for c, i in cs if i > test and c.startswith("peek"))
@@ -314,11 +324,13 @@ class Reader:
         out = ""
         if self.ranks:
             cursor = "(begun l.at l.count l.nest l.furthest)" if self.inside() else "l.cursor"
-            out += f"\nabbrev pub decreases-{self.fn.name} : goal.decreases-{self.fn.name}\ndecreases-{self.fn.name} l = size l.tokens.now {cursor} {self.ranks[self.fn.name]}\n"
+            tokens = "l.source.now.tokens.now" if "source" in self.fn.params else "l.tokens.now"
+            out += f"\nabbrev pub decreases-{self.fn.name} : goal.decreases-{self.fn.name}\ndecreases-{self.fn.name} l = size {tokens} {cursor} {self.ranks[self.fn.name]}\n"
         for loop, variables in self.lts.loops.items():
             free = self.fn.relation not in TEXTED
             def value(m):
                 v = m.group(0).rstrip("₀")
+                if v in ("text", "tokens") and "source" in variables: return f"l.source.{v}.now"
                 return m.group(0) if v not in variables else f"l.initial.{v}" if v != m.group(0) else f"l.{v}"
             keeps = self.recipe.get("invariant") or f"{'(text : List ℕ) → ' if free else ''}{self.recipe.get('keeps', 'Looping')} text tokens ({self.recipe['of']}) p₀ nodes₀ p nodes"
             measure = self.recipe.get("measure", "size tokens p 0")

@@ -16,10 +16,9 @@ use Rattle.grammar.specs.Grammar.{Tree}
 use Rattle.grammar.proofs.On.{is_token}
 use Rattle.grammar.proofs.Fits as nodes
 use Rattle.grammar.proofs.Bases.{bases}
-use Rattle.cairo_m.specs.declared.Reading.{Reading}
 use Rattle.cairo_m.specs.Bases.{token_base, node_base, BasesAre}
 use Rattle.cairo_m.specs.Reading.{input, Outcome, TokensAre, is_nest, is_syntax, is_suffix, is_node_room, is_accepted}
-use Rattle.cairo_m.specs.Reading.{OutcomeIs, is_long, is_encoding, is_lexical, is_token_room, is_lexed, tokens_of, nodes_of, ReadingIs}
+use Rattle.cairo_m.specs.Reading.{OutcomeIs, is_long, is_encoding, is_lexical, is_token_room, is_lexed, tokens_of, nodes_of, Reading, ReadingIs}
 use Rattle.cairo_m.proofs.Lexed.{ordered, fits, values, token_bases}
 use Rattle.cairo_m.proofs.Demand3.{each_at}
 

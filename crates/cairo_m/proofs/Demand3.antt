@@ -13,10 +13,9 @@ use Rattle.grammar.specs.Grammar.{Tree, Deep}
 use Rattle.grammar.proofs.Whole.{tree_one}
 use Rattle.grammar.proofs.Spans.{Each, no_node, node}
 use Rattle.grammar.proofs.Fits.{fits}
-use Rattle.cairo_m.specs.declared.Reading.{Reading}
 use Rattle.cairo_m.specs.Reading.{input, Outcome, accepted, syntax, TokensAre, is_nest, is_syntax, is_suffix, is_node_room, is_accepted}
-use Rattle.cairo_m.specs.Reading.{OutcomeIs, is_long, is_encoding, is_lexical, is_token_room, is_lexed, reading_of, nodes_of, ReadingIs, outcome_of, counts_of}
-use Rattle.cairo_m.proofs.Determined.{some_none, errors_one, moved}
+use Rattle.cairo_m.specs.Reading.{OutcomeIs, is_long, is_encoding, is_lexical, is_token_room, is_lexed, Reading, reading_of, nodes_of, ReadingIs, outcome_of, counts_of}
+use Rattle.cairo_m.proofs.Determined.{errors_one, moved}
 use Rattle.cairo_m.proofs.Lexed.{ordered, values}
 
 -- the premises: UTF-8, at most 65,535 bytes, lexes without error to ts, tokens fit, no attempt above nest 64, the derived tree if there is one fits and has no literal of suffix 3
@@ -57,7 +56,7 @@ data Under (text : List ℕ) (n : ℕ) (ts : List Token) : Outcome → Type 0 wh
 under_tokens : {text : List ℕ} {t n : ℕ} {ts : List Token} {o : Outcome} → Premises text t n ts → TokensAre text n ts o → Under text n ts o
 under_tokens p (is_nest d) = absurd (p.not_deep d)
 under_tokens p (is_syntax d s i) = underived s
-under_tokens p (is_suffix d t) = absurd (some_none (p.no_suffix _ _ t))
+under_tokens p (is_suffix d t) = cc (p.no_suffix _ _ t)
 under_tokens p (is_node_room d t h) = absurd (omega (arith, p.tree_fits _ _ t))
 under_tokens p (is_accepted d t h) = derived t h
 

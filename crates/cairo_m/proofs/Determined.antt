@@ -8,15 +8,11 @@ use Rattle.tables.specs.Tables.{Token, Diagnostic, token_table, node_table, diag
 use Rattle.lexer.specs.Lexes.{Lexes}
 use Rattle.lexer.proofs.Determined.{lexes_one}
 use Rattle.grammar.proofs.Whole.{tree_one, stops_one}
-use Rattle.cairo_m.specs.declared.Reading.{Reading}
 use Rattle.cairo_m.specs.Reading.{Outcome, accepted, lexical, token_room, syntax, suffix, node_room, StopIs, at_token, at_end}
 use Rattle.cairo_m.specs.Reading.{TokensAre, is_nest, is_syntax, is_suffix, is_node_room, is_accepted, OutcomeIs, is_long, is_encoding, is_lexical, is_token_room, is_lexed}
-use Rattle.cairo_m.specs.Reading.{reading_of, tokens_of, nodes_of, diagnostics_of, ReadingIs}
+use Rattle.cairo_m.specs.Reading.{Reading, reading_of, tokens_of, nodes_of, diagnostics_of, ReadingIs}
 
 -- ---- what the tokens come to
-pub some_none : {A : Type 0} {a : A} {l : List A} → a ∷ l ≡ [] → ⊥
-some_none {l = l} e = let n = ap length e in absurd (omega arith)
-
 -- where it stopped
 pub stop_one : {text : List ℕ} {ts : List Token} {d e : Diagnostic} → StopIs text ts d → StopIs text ts e → d ≡ e
 stop_one (at_token s h) (at_token t k) = rw (stops_one s t) refl
@@ -38,22 +34,22 @@ tokens_one (is_syntax d s i) (is_accepted e t h) = absurd (s _ _ t)
 tokens_one (is_suffix d s) (is_nest e) = absurd (d e)
 tokens_one (is_suffix d s) (is_syntax e r j) = absurd (r _ _ s)
 tokens_one (is_suffix d s) (is_suffix e t) = ap suffix (tree_one s t).1
-tokens_one (is_suffix d s) (is_node_room e t h) = absurd (some_none (tree_one s t).1)
-tokens_one (is_suffix d s) (is_accepted e t h) = absurd (some_none (tree_one s t).1)
+tokens_one (is_suffix d s) (is_node_room e t h) = cc ((tree_one s t).1)
+tokens_one (is_suffix d s) (is_accepted e t h) = cc ((tree_one s t).1)
 tokens_one (is_node_room d s h) (is_nest e) = absurd (d e)
 tokens_one (is_node_room d s h) (is_syntax e r j) = absurd (r _ _ s)
-tokens_one (is_node_room d s h) (is_suffix e t) = absurd (some_none (tree_one t s).1)
+tokens_one (is_node_room d s h) (is_suffix e t) = cc ((tree_one t s).1)
 tokens_one (is_node_room d s h) (is_node_room e t k) = ap node_room (tree_one s t).0
 tokens_one (is_node_room d s h) (is_accepted e t k) = let q = ap length (tree_one s t).0 in absurd (omega arith)
 tokens_one (is_accepted d s h) (is_nest e) = absurd (d e)
 tokens_one (is_accepted d s h) (is_syntax e r j) = absurd (r _ _ s)
-tokens_one (is_accepted d s h) (is_suffix e t) = absurd (some_none (tree_one t s).1)
+tokens_one (is_accepted d s h) (is_suffix e t) = cc ((tree_one t s).1)
 tokens_one (is_accepted d s h) (is_node_room e t k) = let q = ap length (tree_one s t).0 in absurd (omega arith)
 tokens_one {ts = ts} (is_accepted d s h) (is_accepted e t k) = ap (accepted ts) (tree_one s t).0
 
 -- ---- what the text comes to
 pub errors_one : {text : List ℕ} {ts us : List Token} {d : Diagnostic} {ds : List Diagnostic} → Lexes 0 text ts (d ∷ ds) → Lexes 0 text us [] → ⊥
-errors_one l m = some_none (lexes_one l m).1
+errors_one l m = cc ((lexes_one l m).1)
 
 pub moved : {text : List ℕ} {n : ℕ} {ts us : List Token} {o : Outcome} → Lexes 0 text us [] → Lexes 0 text ts [] → TokensAre text n us o → TokensAre text n ts o
 moved {text} {n} {o = o} l m a = subst (λ (x : List Token). TokensAre text n x o) (lexes_one l m).0 a

@@ -8,6 +8,7 @@ use native.Mathlib.Decide.{ℕ_discrete}
 use lib.Dec.{T, leb, ltb, eqb, leb→le}
 use lib.ListN.{length, take, drop}
 use borrow.Author.Tests.{eqb-true, eqb-false, ltb-true}
+use Rattle.std.specs.Prelude.{Option, None, Some, Ok, unwrap_or}
 use Rattle.patterns.specs.Bytes.{bytes, same, starts, in_set, white, letter, digit, word, run}
 use Rattle.patterns.proofs.Tests.{and_l, and_r}
 use Rattle.patterns.proofs.Words.{same_is, same_self}
@@ -17,12 +18,12 @@ use Rattle.utf8.specs.Utf8.{Utf8, Rest}
 use Rattle.utf8.specs.Utf8 as utf8
 use Rattle.numeral.specs.Numeral.{base_of, digit_of, digit_in, last_below, last_of, cut_at, cut_by, cut_of, suffix_kind, reading, read_to, rest_of, numeral_of}
 use Rattle.lexer.specs.Kinds.{texts, fixed_of}
-use Rattle.lexer.specs.Classes.{kind_from, next_from, next_of, pair_of, class_of}
+use Rattle.lexer.specs.Classes.{kind_from, next_from, next_of, pair_of, class_of, KindIs, kind, no_kind}
 use Rattle.lexer.specs.Tokens.{Best}
 use Rattle.lexer.specs.Lexes.{Item, item_of, Step, matched, tokens, errors, Lexes, done, step}
-use Rattle.lexer.specs.Scans.{KindIs, kind, no_kind, Begun, Scanned}
+use Rattle.lexer.specs.Scans.{Begun, Scanned}
 use Rattle.lexer.specs.declared.scan.Found.TheVariants as Found
-use Rattle.lexer.proofs.Texts.{no_pair, a_pair, white_is}
+use Rattle.lexer.proofs.Texts.{no_pair, zero_pair, a_pair, white_is}
 use Rattle.lexer.proofs.Scans.{Marked, found_white, found_name, found_numeral, found_last, found_slash, found_single, found_pair}
 use Rattle.grammar.proofs.Edge.{Row, row, rows}
 use Rattle.cairo_m.proofs.Lexed.{either_way}
@@ -37,50 +38,62 @@ data Is : List ℕ → Sight → Type 0 where
   is_end : Is [] end
   is_unseen : {s : List ℕ} → Is s unseen
 
-skip_is : {s : List ℕ} {n : ℕ} → Scanned s (Found.Skip n) → Is s (seen 0 n)
+skip_is : {s : List ℕ} {n : ℕ} → Scanned s (Ok (Found.Skip n)) → Is s (seen 0 n)
 skip_is (Scanned.skip b r) = is b r
 
-number_is : {s : List ℕ} {n : ℕ} → Scanned s (Found.Number n) → Is s (seen 1 n)
+number_is : {s : List ℕ} {n : ℕ} → Scanned s (Ok (Found.Number n)) → Is s (seen 1 n)
 number_is (Scanned.number b r) = is b r
 
-token_is : {s : List ℕ} {k n : ℕ} → Scanned s (Found.Token k n) → Is s (seen k n)
+token_is : {s : List ℕ} {k n : ℕ} → Scanned s (Ok (Found.Token k n)) → Is s (seen k n)
 token_is (Scanned.token h b r) = is b r
 
--- of the first k keywords, the one that the word is; else a name
-keyword : ℕ → List ℕ → ℕ
-keyword zero w = IDENT
-keyword (suc k) w = cond (same (fixed_of (k + 2)) w) (k + 2) (keyword k w)
+-- of the first k keywords, the one that the word is
+keyword : ℕ → List ℕ → Option ℕ
+keyword zero w = None
+keyword (suc k) w = cond (same (fixed_of (k + 2)) w) (Some (k + 2)) (keyword k w)
 
-keyword_is : (k : ℕ) (w : List ℕ) → k ≤ 18 → ((j : ℕ) → k + 2 ≤ j → j ≤ 19 → w ≡ fixed_of j → ⊥) → KindIs 2 19 IDENT w (keyword k w)
+keyword_is : (k : ℕ) (w : List ℕ) → k ≤ 18 → ((j : ℕ) → k + 2 ≤ j → j ≤ 19 → w ≡ fixed_of j → ⊥) → KindIs 2 19 w (keyword k w)
 unfolding keyword
-keyword_is zero w h f = no_kind refl f
+keyword_is zero w h f = no_kind f
 keyword_is (suc k) w h f =
-    either_way (KindIs 2 19 IDENT w) (same (fixed_of (k + 2)) w) (λ e. kind (omega arith) (omega arith) (same_is (fixed_of (k + 2)) w e))
+    either_way (KindIs 2 19 w) (same (fixed_of (k + 2)) w) (λ e. kind (omega arith) (omega arith) (same_is (fixed_of (k + 2)) w e))
     (λ e. keyword_is k w (omega arith) (λ j a b q. elim (ℕ_discrete j (k + 2)) [ yes p ↦ not_here j e p q | no p ↦ f j (omega arith) b q ]))
   where
     not_here : (j : ℕ) → same (fixed_of (k + 2)) w ≡ false → j ≡ k + 2 → w ≡ fixed_of j → ⊥
     not_here j e p q = false≢true (sym e ∙ subst (λ (v : List ℕ). same (fixed_of (k + 2)) v ≡ true) (sym (q ∙ ap fixed_of p)) (same_self (fixed_of (k + 2))))
 
--- the mark of the bytes b and d, 0 if there is none
-pair : ℕ → ℕ → ℕ
-pair b d = cond (eqb (next_of b) d) (pair_of b) 0
+-- the mark of the bytes b and d
+pair : ℕ → ℕ → Option ℕ
+pair b d = cond (eqb (next_of b) d) (cond (eqb (pair_of b) 0) None (Some (pair_of b))) None
 
-pair_is : (b d : ℕ) → b < 256 → KindIs 21 50 0 (b ∷ d ∷ []) (pair b d)
+pair_is : (b d : ℕ) → b < 256 → KindIs 21 50 (b ∷ d ∷ []) (pair b d)
 unfolding pair
-pair_is b d h = either_way (KindIs 21 50 0 (b ∷ d ∷ [])) (eqb (next_of b) d) (λ f. a_pair h refl (eqb-true _ d f) refl) (λ f. no_pair refl (eqb-false _ d f))
+pair_is b d h =
+    either_way (KindIs 21 50 (b ∷ d ∷ [])) (eqb (next_of b) d)
+    (λ f. either_way (KindIs 21 50 (b ∷ d ∷ [])) (eqb (pair_of b) 0) (λ z. zero_pair h refl (eqb-true _ 0 z)) (λ z. a_pair h refl (eqb-true _ d f) refl (eqb-false _ 0 z)))
+    (λ f. no_pair refl (eqb-false _ d f))
+
+-- a mark of one byte, of class c, or of two
+longer : ℕ → Option ℕ → Sight
+longer c None = seen c 1
+longer c (Some k) = seen k 2
+
+longer_is : (c b d : ℕ) (s : List ℕ) → Marked (b ∷ d ∷ s) c → (c ≡ 36 → ⊥) → (r : Option ℕ) → KindIs 21 50 (b ∷ d ∷ []) r → Is (b ∷ d ∷ s) (longer c r)
+unfolding longer
+longer_is c b d s m h None p = token_is (found_single m h p refl)
+longer_is c b d s m h (Some k) p = token_is (found_pair m (omega arith) h p refl)
 
 mark : ℕ → ℕ → List ℕ → Sight
 mark c b [] = seen c 1
-mark c b (d ∷ s) = cond (eqb c 36) (cond (eqb d 47) unseen (seen c 1)) (cond (eqb (pair b d) 0) (seen c 1) (seen (pair b d) 2))
+mark c b (d ∷ s) = cond (eqb c 36) (cond (eqb d 47) unseen (seen c 1)) (longer c (pair b d))
 
 mark_is : (c b : ℕ) (s : List ℕ) → Marked (b ∷ s) c → Is (b ∷ s) (mark c b s)
 unfolding mark
 mark_is c b [] m = token_is (found_last m refl)
 mark_is c b (d ∷ s) m =
-    let p = pair_is b d m.begun.small in
     either_way (Is _) (eqb c 36)
     (λ e. either_way (Is _) (eqb d 47) (λ f. is_unseen) (λ f. token_is (found_slash m (eqb-true c 36 e) (eqb-false d 47 f))))
-    (λ e. either_way (Is _) (eqb (pair b d) 0) (λ f. token_is (found_single m (eqb-false c 36 e) p (eqb-true _ 0 f))) (λ f. token_is (found_pair m (omega arith) (eqb-false c 36 e) p (eqb-false _ 0 f))))
+    (λ e. longer_is c b d s m (eqb-false c 36 e) (pair b d) (pair_is b d m.begun.small))
 
 -- by the class of the first byte
 sight : List ℕ → Sight
@@ -90,7 +103,7 @@ sight (b ∷ s) =
     let n = run (in_set word) (b ∷ s) in
     cond (ltb b 256)
     (cond (eqb c 1) (seen 0 (run (in_set white) (b ∷ s)))
-    (cond (eqb c 0xFE) (seen (keyword 18 (take n (b ∷ s))) n)
+    (cond (eqb c 0xFE) (seen (unwrap_or (keyword 18 (take n (b ∷ s))) IDENT) n)
     (cond (eqb c 0xFF) (seen 1 n)
     (cond (ltb c 0x80) (mark c b s) unseen))))
     unseen
@@ -170,7 +183,7 @@ stated : Row → Read
 stated (row w ts v) = read ts []
 
 computed : map found rows ≡ map stated rows
-unfolding found stated rows steps onward add sight mark pair keyword class_of kind_from next_of next_from pair_of texts fixed_of white letter digit word run same starts numeral_of rest_of read_to reading suffix_kind cut_of cut_by cut_at last_of last_below digit_in digit_of base_of
+unfolding found stated rows steps onward add sight mark longer pair keyword class_of kind_from next_of next_from pair_of texts fixed_of white letter digit word run same starts numeral_of rest_of read_to reading suffix_kind cut_of cut_by cut_at last_of last_below digit_in digit_of base_of
 computed = refl
 
 lexed : {s : List ℕ} {ts : List Token} {r : Read} → Sound 0 s r → r ≡ read ts [] → (Utf8 s × Lexes 0 s ts [])

@@ -9,14 +9,16 @@ use lib.Dec.{ltb, eqb}
 use lib.ListN.{length, take, drop, get_or, length-drop}
 use lib.Seq.{drop-drop}
 use borrow.Author.Tests.{ltb-false, ne_eqb}
-use Rattle.patterns.specs.Bytes.{bytes, same}
+use Rattle.std.specs.Prelude.{Result, Ok, Err}
 use Rattle.tables.specs.Tables.{Token, Diagnostic}
 use Rattle.tables.specs.TokenKinds.{NUMBER}
+use Rattle.tables.specs.Codes.{suffix_code}
+use Rattle.tables.specs.declared.entry_codes.Suffix.{Suffix}
 use Rattle.tables.proofs.Laws.{TokenFits, zero_token}
 use Rattle.numeral.specs.Numeral.{most, base_of, digit_of, digit_in, cut_of, suffix_kind, reading, read_to, rest_of, numeral_of}
 use Rattle.numeral.proofs.Rests.{base_small, base_told}
 use Rattle.numeral.specs.declared.NumberLiteral.{NumberLiteral}
-use Rattle.numeral.specs.declared.NumberLiteral.TheVariants.{Number, Overflow, InvalidFormat}
+use Rattle.numeral.specs.declared.NumberParseError.{NumberParseError}
 use Rattle.lexer.specs.Tokens.{Spells, white_space, comment, numeral, name, fixed}
 use Rattle.lexer.specs.Lexes.{Item, skipped, token, error, item_of, Step, matched, strange, tokens, Lexes, done, step}
 use Rattle.lexer.proofs.Texts.{fixed_kind}
@@ -29,28 +31,18 @@ pub either_way : {A : Type 0} (P : A → Type 0) {a b : A} (c : Bool) → (c ≡
 either_way P true f g = f refl
 either_way P false f g = g refl
 
--- ---- numerals: a value of 64 bits and a suffix up to 3
-data Small : NumberLiteral → Type 0 where
-  number : {v x b : ℕ} → v ≤ most → x ≤ 3 → Small (Number v x b)
-  overflow : Small Overflow
-  format : Small InvalidFormat
+-- ---- numerals: a value of 64 bits
+data Small : Result NumberLiteral NumberParseError → Type 0 where
+  number : {l : NumberLiteral} → l.value ≤ most → Small (Ok l)
+  overflow : Small (Err NumberParseError.Overflow)
+  format : Small (Err NumberParseError.InvalidFormat)
 
-suffix_small : (s : List ℕ) → suffix_kind s ≤ 3
-unfolding suffix_kind
-suffix_small s = go (eqb (length s) 0) (same (bytes "felt") s) (same (bytes "u32") s)
-  where
-    go : (a b c : Bool) → cond a 0 (cond b 1 (cond c 2 3)) ≤ 3
-    go true b c = omega arith
-    go false true c = omega arith
-    go false false true = omega arith
-    go false false false = omega arith
-
-reading_small : (base x v : ℕ) (s : List ℕ) → x ≤ 3 → v ≤ most → Small (reading base x v s)
+reading_small : (base v : ℕ) (x : Suffix) (s : List ℕ) → v ≤ most → Small (reading base x v s)
 unfolding reading
-reading_small base x v [] h k = number k h
-reading_small base x v (b ∷ s) h k =
+reading_small base v x [] h = number h
+reading_small base v x (b ∷ s) h =
     either_way Small (digit_in base b)
-    (λ p. either_way Small (ltb most (v * base + digit_of b)) (λ q. overflow) (λ q. reading_small base x (v * base + digit_of b) s h (ltb-false _ _ q)))
+    (λ p. either_way Small (ltb most (v * base + digit_of b)) (λ q. overflow) (λ q. reading_small base (v * base + digit_of b) x s (ltb-false _ _ q)))
     (λ p. format)
 
 rest_small : (base : ℕ) (s : List ℕ) → Small (rest_of base s)
@@ -58,7 +50,7 @@ unfolding rest_of read_to
 rest_small base s =
     let k = cut_of base s in
     either_way Small (eqb k 0) (λ p. format)
-    (λ p. either_way Small (digit_in 10 (get_or s k 0)) (λ q. format) (λ q. reading_small base (suffix_kind (drop k s)) 0 (take k s) (suffix_small (drop k s)) zero-le))
+    (λ p. either_way Small (digit_in 10 (get_or s k 0)) (λ q. format) (λ q. reading_small base 0 (suffix_kind (drop k s)) (take k s) zero-le))
 
 numeral_small : (s : List ℕ) → Small (numeral_of s)
 unfolding numeral_of
@@ -77,9 +69,15 @@ spells_kind (numeral e p) = omega arith
 spells_kind (name e p) = omega arith
 spells_kind {k} (fixed h e) = fixed_kind k (subst (λ (w : List ℕ). 1 ≤ length w) e h)
 
-item_fine : (k : ℕ) (w : List ℕ) {a : NumberLiteral} → k < 51 → Small a → numeral_of w ≡ a → Fine w (item_of k a)
+code_fits : (x : Suffix) → suffix_code x < 256
+code_fits Suffix.Absent = omega arith
+code_fits Suffix.Felt = omega arith
+code_fits Suffix.U32 = omega arith
+code_fits Suffix.Other = omega arith
+
+item_fine : (k : ℕ) (w : List ℕ) {a : Result NumberLiteral NumberParseError} → k < 51 → Small a → numeral_of w ≡ a → Fine w (item_of k a)
 item_fine zero w h s e = nothing
-item_fine (suc zero) w h (number {v} {x} {b} p q) e = fine {k = 1} {x = x} {v = v} (omega arith) (omega arith) (omega arith) (base_told w e)
+item_fine (suc zero) w h (number {l} p) e = fine {k = 1} {x = suffix_code l.suffix} {v = l.value} (omega arith) (code_fits l.suffix) (omega arith) (base_told w e)
 item_fine (suc zero) w h overflow e = wrong
 item_fine (suc zero) w h format e = wrong
 item_fine (suc (suc k)) w h s e = fine {k = suc (suc k)} {x = 0} {b = 0} {v = 0} (omega arith) (omega arith) (omega arith) (sym (rw (ne_eqb (suc (suc k)) NUMBER (λ e. omega arith))))

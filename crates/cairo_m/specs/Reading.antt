@@ -1,11 +1,14 @@
 -- What a reading answers: from the text and the tables' lengths, the outcome, the counts and every byte of the three tables. Assumes nothing.
-use Rattle.std.specs.Prelude.{◌≡◌, List, [], ◌∷◌, map, ℕ, ◌/◌, ◌≤◌, ◌<◌, length}
+use Rattle.std.specs.Prelude.{◌≡◌, List, [], ◌∷◌, map, ℕ, ◌/◌, ◌≤◌, ◌<◌, length, Result, Ok, Err}
 use Rattle.tables.specs.Tables.{Token, Node, Diagnostic, token_table, node_table, diagnostic_table}
 use Rattle.utf8.specs.Utf8.{Utf8}
 use Rattle.lexer.specs.Lexes.{Lexes}
+use Rattle.lexer.specs.declared.entry.LexError.{LexError}
 use Rattle.grammar.specs.Derive.{Input, token}
 use Rattle.grammar.specs.Grammar.{Tree, Deep, Taken, Stops}
-use Rattle.cairo_m.specs.declared.Reading.{Reading}
+use Rattle.cairo_m.specs.declared.Accepted.{Accepted}
+use Rattle.cairo_m.specs.declared.Refusal.{Refusal}
+use Rattle.cairo_m.specs.declared.Counts.{Counts}
 
 -- ---- the outcomes
 
@@ -47,17 +50,21 @@ pub data OutcomeIs (text : List ℕ) (t n : ℕ) : Outcome → Type 0 where
 
 -- ---- what comes out with each
 
+-- what `read` returns
+abbrev pub Reading : Type 0
+Reading = Result Accepted Refusal
+
 -- the answer: how many tokens and nodes there are, how many entries would do, or how many errors
 abbrev pub reading_of : Outcome → Reading
-reading_of (accepted ts ns) = Reading.Accepted (length ts) (length ns)
-reading_of long = Reading.Long
-reading_of encoding = Reading.Encoding
-reading_of (lexical ds) = Reading.Lexical (length ds)
-reading_of (token_room ts) = Reading.TokenRoom (length ts)
-reading_of nest = Reading.Nest
-reading_of (syntax d) = Reading.Syntax
-reading_of (suffix us) = Reading.Suffix (length us)
-reading_of (node_room ns) = Reading.NodeRoom (length ns)
+reading_of (accepted ts ns) = Ok (record { tokens = length ts; nodes = length ns })
+reading_of long = Err Refusal.Long
+reading_of encoding = Err Refusal.Encoding
+reading_of (lexical ds) = Err (Refusal.Lexical (length ds))
+reading_of (token_room ts) = Err (Refusal.TokenRoom (length ts))
+reading_of nest = Err Refusal.Nest
+reading_of (syntax d) = Err Refusal.Syntax
+reading_of (suffix us) = Err (Refusal.Suffix (length us))
+reading_of (node_room ns) = Err (Refusal.NodeRoom (length ns))
 
 -- the tokens handed out; none after a refusal, so that the table is all zero
 abbrev pub tokens_of : Outcome → List Token
@@ -110,32 +117,33 @@ pub record ReadingIs (text : List ℕ) (k m n : ℕ) (a b c : List ℕ) (r : Rea
 
 -- ---- the numbers of an answer
 
+-- a text that lexing refuses is refused
+abbrev pub refusal_of : LexError → Refusal
+refusal_of LexError.Long = Refusal.Long
+refusal_of LexError.Encoding = Refusal.Encoding
+refusal_of (LexError.Lexical d) = Refusal.Lexical d
+refusal_of (LexError.TokenRoom t) = Refusal.TokenRoom t
+
 -- 01's number of the outcome
 abbrev pub outcome_of : Reading → ℕ
-outcome_of (Reading.Accepted t n) = 0
-outcome_of Reading.Long = 1
-outcome_of Reading.Encoding = 2
-outcome_of (Reading.Lexical d) = 3
-outcome_of (Reading.TokenRoom t) = 4
-outcome_of Reading.Nest = 5
-outcome_of (Reading.NodeRoom n) = 6
-outcome_of Reading.Syntax = 7
-outcome_of (Reading.Suffix d) = 8
-
--- how many tokens, nodes and errors an answer speaks of
-pub record Counts : Type 0 where
-  pub tokens : ℕ
-  pub nodes : ℕ
-  pub diagnostics : ℕ
+outcome_of (Ok a) = 0
+outcome_of (Err Refusal.Long) = 1
+outcome_of (Err Refusal.Encoding) = 2
+outcome_of (Err (Refusal.Lexical d)) = 3
+outcome_of (Err (Refusal.TokenRoom t)) = 4
+outcome_of (Err Refusal.Nest) = 5
+outcome_of (Err (Refusal.NodeRoom n)) = 6
+outcome_of (Err Refusal.Syntax) = 7
+outcome_of (Err (Refusal.Suffix d)) = 8
 
 -- the numbers of tokens and nodes, with 0 and, to tell how many entries would do, with 4 and 6; the full count of errors, with 3, 7 and 8
 abbrev pub counts_of : Reading → Counts
-counts_of (Reading.Accepted t n) = record { tokens = t; nodes = n; diagnostics = 0 }
-counts_of Reading.Long = record { tokens = 0; nodes = 0; diagnostics = 0 }
-counts_of Reading.Encoding = record { tokens = 0; nodes = 0; diagnostics = 0 }
-counts_of (Reading.Lexical d) = record { tokens = 0; nodes = 0; diagnostics = d }
-counts_of (Reading.TokenRoom t) = record { tokens = t; nodes = 0; diagnostics = 0 }
-counts_of Reading.Nest = record { tokens = 0; nodes = 0; diagnostics = 0 }
-counts_of (Reading.NodeRoom n) = record { tokens = 0; nodes = n; diagnostics = 0 }
-counts_of Reading.Syntax = record { tokens = 0; nodes = 0; diagnostics = 1 }
-counts_of (Reading.Suffix d) = record { tokens = 0; nodes = 0; diagnostics = d }
+counts_of (Ok a) = record { tokens = a.tokens; nodes = a.nodes; diagnostics = 0 }
+counts_of (Err Refusal.Long) = record { tokens = 0; nodes = 0; diagnostics = 0 }
+counts_of (Err Refusal.Encoding) = record { tokens = 0; nodes = 0; diagnostics = 0 }
+counts_of (Err (Refusal.Lexical d)) = record { tokens = 0; nodes = 0; diagnostics = d }
+counts_of (Err (Refusal.TokenRoom t)) = record { tokens = t; nodes = 0; diagnostics = 0 }
+counts_of (Err Refusal.Nest) = record { tokens = 0; nodes = 0; diagnostics = 0 }
+counts_of (Err (Refusal.NodeRoom n)) = record { tokens = 0; nodes = n; diagnostics = 0 }
+counts_of (Err Refusal.Syntax) = record { tokens = 0; nodes = 0; diagnostics = 1 }
+counts_of (Err (Refusal.Suffix d)) = record { tokens = 0; nodes = 0; diagnostics = d }

@@ -1,22 +1,15 @@
 -- Contracts of private functions, from a text's tokens on, before it is known that the lexer made them. Assumes nothing.
-use Rattle.std.specs.Prelude.{◌≡◌, true, false, List, map, ℕ, ◌+◌, ◌/◌, ◌<◌, ◌≤◌, length}
-use Rattle.tables.specs.Tables.{encode_diagnostic, tokens_of as tokens_in, token_at, table, laid, stored}
-use Rattle.tables.specs.Suffix.{unknown_suffix, unknown_numerals}
+use Rattle.std.specs.Prelude.{◌≡◌, cond, List, map, ℕ, ◌/◌, nat_lt, length}
+use Rattle.tables.specs.Tables.{Diagnostic, encode_diagnostic, tokens_of as tokens_in, token_at, table, laid}
+use Rattle.tables.specs.Suffix.{unknown_numerals}
 use Rattle.parser.specs.Parse.{entry_of}
-use Rattle.cairo_m.specs.declared.Reading.{Reading}
-use Rattle.cairo_m.specs.Reading.{Outcome, TokensAre, reading_of, nodes_of, diagnostics_of, suffix_error}
+use Rattle.cairo_m.specs.Reading.{Outcome, TokensAre, Reading, reading_of, nodes_of, diagnostics_of, suffix_error}
 
--- in the table T, as its first: the stop at token i, or at the end of the text
-pub data Stopped (text w : List ℕ) (i : ℕ) (T U : List ℕ) : Type 0 where
-  stopped_at : i < length w / 16 → U ≡ stored 8 T 0 (encode_diagnostic (record { start = (token_at w i).start; end = (token_at w i).end; reason = 5 })) → Stopped text w i T U
-  stopped_after : length w / 16 ≤ i → U ≡ stored 8 T 0 (encode_diagnostic (record { start = length text; end = length text; reason = 5 })) → Stopped text w i T U
+-- the stop at token i of the table w, or where the text ends, if there is none
+abbrev pub stop_of : List ℕ → (i end : ℕ) → Diagnostic
+stop_of w i end = cond (nat_lt i (length w / 16)) (record { start = (token_at w i).start; end = (token_at w i).end; reason = 5 }) (record { start = end; end = end; reason = 5 })
 
--- token i is listed in the table T as error number n, if it is a numeral with an unknown suffix
-pub data Noted (w : List ℕ) (i : ℕ) (T : List ℕ) (n : ℕ) (U : List ℕ) (r : ℕ) : Type 0 where
-  passed : unknown_suffix (token_at w i) ≡ false → U ≡ T → r ≡ n → Noted w i T n U r
-  noted : unknown_suffix (token_at w i) ≡ true → U ≡ stored 8 T n (encode_diagnostic (suffix_error (token_at w i))) → r ≡ n + 1 → Noted w i T n U r
-
--- the errors of all such numerals are laid over the table T, and there are r
+-- the errors of all numerals with an unknown suffix are laid over the table T, and there are r
 pub record Unknown (w T U : List ℕ) (r : ℕ) : Type 0 where
   pub count : r ≡ length (unknown_numerals (tokens_in w))
   pub listed : U ≡ laid 8 encode_diagnostic T (map suffix_error (unknown_numerals (tokens_in w)))

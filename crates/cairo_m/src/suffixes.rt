@@ -1,72 +1,56 @@
 // From the tokens on: the tree, the place where reading stopped, the literals with an unknown suffix, the room for the nodes.
-ghost use Rattle.std.specs.Prelude.{◌≡◌, ◌≤◌, ◌<◌, ◌/◌, length};
-ghost use Rattle.tables.specs.Tables.{tokens_of as tokens_in};
-ghost use Rattle.tables.specs.Suffix.{unknown_numerals};
-ghost use Rattle.cairo_m.specs.Suffixes.{Stopped, Noted, Unknown, TokensRead};
+ghost use Rattle.std.specs.Prelude.{◌≡◌, ◌≤◌, length};
+ghost use Rattle.tables.specs.Tables.{encode_diagnostic, stored, tokens_of as tokens_in};
+ghost use Rattle.tables.specs.Suffix.{unknown_suffix, unknown_numerals};
+ghost use Rattle.cairo_m.specs.Suffixes.{stop_of, Unknown, TokensRead};
 
-use crate::Reading;
-use diagnostic::put_diagnostic;
-use parser::{Parsed, parse};
-use tables::clear_from;
-use tables::token_type::LITERAL_NUMBER;
+use crate::{Accepted, Refusal};
+use parser::{ParseError, parse};
+use tables::entry_codes::{Reason, Suffix};
+use tables::token_type::TokenType;
+use tables::{Diagnostic, Entry, Node, Token, clear_from};
 
-const OTHER_SUFFIX: u8 = 3;
-
-const UNKNOWN_SUFFIX: u8 = 4;
-
-const STOPPED: u8 = 5;
-
-// Lists where reading stopped: at this token, or at the end of the text if there is none.
-fn stop(text: &[u8], tokens: &[u8], at: usize, diagnostics: &mut [u8])
-    requires { length text.now ≤ 65535 }
-    ensures { Stopped text.now tokens.now at diagnostics.old diagnostics.new }
+// Lists where reading stopped: at this token, or where the text ends if there is none.
+fn stop(tokens: &[u8], at: usize, text_end: u16, diagnostics: &mut [u8])
+    ensures { diagnostics.new ≡ stored 8 diagnostics.old 0 (encode_diagnostic (stop_of tokens.now at text_end)) }
 {
-    if at < token::room(tokens) {
-        put_diagnostic(
-            diagnostics,
-            0,
-            token::start(tokens, at),
-            token::end(tokens, at),
-            STOPPED,
-        );
-        return;
-    }
-    let end = text.len() as u16;
-    put_diagnostic(diagnostics, 0, end, end, STOPPED);
+    let (start, end) = if at < Token::room(tokens) {
+        let token = Token::at(tokens, at);
+        (token.start, token.end)
+    } else {
+        (text_end, text_end)
+    };
+    let stopped = Diagnostic {
+        start,
+        end,
+        reason: Reason::Stopped as u8,
+    };
+    stopped.put(diagnostics, 0);
 }
 
-// Lists token i if it is a numeral with an unknown suffix, as error number `count`, and answers how many there are then.
-fn note(tokens: &[u8], i: usize, diagnostics: &mut [u8], count: usize) -> usize
-    requires count_le_i { count ≤ i }
-    requires i_in_bounds { i < length tokens.now / 16 }
-    ensures { Noted tokens.now i diagnostics.old count diagnostics.new result }
+// Whether a token is a numeral with a suffix that is neither felt nor u32.
+fn is_unknown(token: Token) -> bool
+    ensures { result ≡ unknown_suffix token }
 {
-    if token::suffix(tokens, i) != OTHER_SUFFIX {
-        return count;
-    }
-    if token::kind(tokens, i) != LITERAL_NUMBER {
-        return count;
-    }
-    put_diagnostic(
-        diagnostics,
-        count,
-        token::start(tokens, i),
-        token::end(tokens, i),
-        UNKNOWN_SUFFIX,
-    );
-    count + 1
+    token.kind == TokenType::LiteralNumber as u8 && token.suffix == Suffix::Other as u8
 }
 
 // Lists all numerals with an unknown suffix, and counts them.
 fn unknown_suffixes(tokens: &[u8], diagnostics: &mut [u8]) -> usize
     ensures { Unknown tokens.now diagnostics.old diagnostics.new result }
 {
-    let n = token::room(tokens);
     let mut count = 0;
-    let mut i = 0;
-    while i < n {
-        count = note(tokens, i, diagnostics, count);
-        i += 1;
+    for i in 0..Token::room(tokens) {
+        let token = Token::at(tokens, i);
+        if is_unknown(token) {
+            let error = Diagnostic {
+                start: token.start,
+                end: token.end,
+                reason: Reason::UnknownSuffix as u8,
+            };
+            error.put(diagnostics, count);
+            count += 1;
+        }
     }
     count
 }
@@ -78,31 +62,29 @@ pub(crate) fn read_tokens(
     unknown: usize,
     nodes: &mut [u8],
     diagnostics: &mut [u8],
-) -> Reading
+) -> Result<Accepted, Refusal>
     requires text_len_bound { length text.now ≤ 65535 }
     requires unknown_value { unknown ≡ length (unknown_numerals (tokens_in tokens.now)) }
     ensures { TokensRead text.now tokens.now (length nodes.old) nodes.new diagnostics.old diagnostics.new result }
 {
-    let parsed = parse(text, tokens, nodes);
-    match parsed {
-        Parsed::Deep => Reading::Nest,
-        Parsed::Syntax(at) => {
-            stop(text, tokens, at, diagnostics);
-            Reading::Syntax
+    let count = match parse(text, tokens, nodes) {
+        Ok(count) => count,
+        Err(ParseError::Deep) => return Err(Refusal::Nest),
+        Err(ParseError::Syntax(at)) => {
+            stop(tokens, at, text.len() as u16, diagnostics);
+            return Err(Refusal::Syntax);
         }
-        Parsed::Tree(count) => {
-            if unknown > 0 {
-                clear_from(nodes, 0);
-                return Reading::Suffix(unknown_suffixes(tokens, diagnostics));
-            }
-            if count > node::room(nodes) {
-                clear_from(nodes, 0);
-                return Reading::NodeRoom(count);
-            }
-            Reading::Accepted {
-                tokens: token::room(tokens),
-                nodes: count,
-            }
-        }
+    };
+    if unknown > 0 {
+        clear_from(nodes, 0);
+        return Err(Refusal::Suffix(unknown_suffixes(tokens, diagnostics)));
     }
+    if count > Node::room(nodes) {
+        clear_from(nodes, 0);
+        return Err(Refusal::NodeRoom(count));
+    }
+    Ok(Accepted {
+        tokens: Token::room(tokens),
+        nodes: count,
+    })
 }

@@ -5,9 +5,10 @@ mod kind;
 mod rows;
 
 use case_io::fill;
-use rows::print;
+use rows::{DiagnosticRow, TokenRow};
 use std::io;
 use std::io::Write;
+use tables::{Diagnostic, Entry, Token};
 
 // Reads one byte more than the longest text, so that a longer one is seen to be too long.
 fn main(rt: HostRuntime) -> io::Result<()> {
@@ -32,15 +33,18 @@ fn list<W: Write>(out: &mut W, text: &[u8]) -> io::Result<()> {
     if outcome == 0 {
         accepted(out, &tokens, token_count)
     } else {
-        refused(out, outcome, &diagnostics, diagnostic_count)
+        let count = diagnostic_count.min(Diagnostic::room(&diagnostics));
+        refused(out, outcome, &diagnostics, count)
     }
 }
 
-// [["Const",0,5,0,0],..]
+// [["Const",0,5,0,0,0],..]
 fn accepted<W: Write>(out: &mut W, tokens: &[u8], count: usize) -> io::Result<()> {
-    print(out, b"[")?;
-    rows::tokens(out, tokens, count)?;
-    print(out, b"]\n")
+    write!(out, "[")?;
+    for i in 0..count {
+        write!(out, "{}{}", comma(i), TokenRow(Token::at(tokens, i)))?;
+    }
+    writeln!(out, "]")
 }
 
 // {"refused":3,"diagnostics":[[0,1,1],..]}
@@ -51,14 +55,18 @@ fn refused<W: Write>(
     count: usize,
 ) -> io::Result<()> {
     write!(out, "{{\"refused\":{outcome},\"diagnostics\":[")?;
-    rows::diagnostics(
-        out,
-        diagnostics,
-        least(count, diagnostic::room(diagnostics)),
-    )?;
-    print(out, b"]}\n")
+    for i in 0..count {
+        write!(
+            out,
+            "{}{}",
+            comma(i),
+            DiagnosticRow(Diagnostic::at(diagnostics, i))
+        )?;
+    }
+    writeln!(out, "]}}")
 }
 
-fn least(a: usize, b: usize) -> usize {
-    if a < b { a } else { b }
+// What stands before row i.
+fn comma(i: usize) -> &'static str {
+    if i == 0 { "" } else { "," }
 }

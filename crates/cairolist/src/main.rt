@@ -1,13 +1,12 @@
 // Prints the tree of the Cairo-M text on standard input, or why it is refused: one line of JSON.
 #![tactic(auto)]
 
-ghost use Rattle.std.specs.Prelude.{◌≤◌};
-
-use case_io::fill;
+use case_io::{fill, first, line};
 use entries::read_numbers;
-use listing::{Listed, list, list_refused};
+use listing::{ListError, list, list_refused};
 use std::io;
 use std::io::Write;
+use tables::{Diagnostic, Node};
 
 // Reads one byte more than the longest text, so that a longer one is seen to be too long.
 fn main(rt: HostRuntime) -> io::Result<()> {
@@ -17,6 +16,7 @@ fn main(rt: HostRuntime) -> io::Result<()> {
 }
 
 // Each table has 1,024 entries.
+#[tactic(auto, unfolding(listing::specs::Answers::fitted, listing::specs::Answers::listed, listing::specs::Answers::refused))]
 fn answer<W: Write, E: Write>(out: &mut W, err: &mut E, text: &[u8]) -> io::Result<()> {
     let mut tokens = [0u8; 16384];
     let mut nodes = [0u8; 16384];
@@ -33,67 +33,17 @@ fn answer<W: Write, E: Write>(out: &mut W, err: &mut E, text: &[u8]) -> io::Resu
         &mut node_count,
         &mut diagnostic_count,
     );
-    if outcome == 0 {
-        accepted(out, err, &nodes, node_count)
+    // The listing of 1,024 entries has less than 65,536 bytes.
+    let mut listing = [0u8; 65536];
+    let listed = if outcome == 0 {
+        list(first::<Node>(&nodes, node_count), &mut listing)
     } else {
-        refused(out, err, outcome, &diagnostics, diagnostic_count)
-    }
-}
-
-// A listing of 1,024 entries has less than 65,536 bytes.
-fn accepted<W: Write, E: Write>(
-    out: &mut W,
-    err: &mut E,
-    nodes: &[u8],
-    count: usize,
-) -> io::Result<()> {
-    let mut listing = [0u8; 65536];
-    let end = least(count, node::room(nodes)) * 16;
-    let listed = list(&nodes[0..end], &mut listing);
-    print(out, err, &listing, listed)
-}
-
-fn refused<W: Write, E: Write>(
-    out: &mut W,
-    err: &mut E,
-    outcome: u32,
-    diagnostics: &[u8],
-    count: usize,
-) -> io::Result<()> {
-    let mut listing = [0u8; 65536];
-    let end = least(count, diagnostic::room(diagnostics)) * 8;
-    let listed = list_refused(outcome, &diagnostics[0..end], &mut listing);
-    print(out, err, &listing, listed)
-}
-
-fn least(a: usize, b: usize) -> usize
-    ensures { result ≤ b }
-{
-    if a < b { a } else { b }
-}
-
-fn print<W: Write, E: Write>(
-    out: &mut W,
-    err: &mut E,
-    listing: &[u8],
-    listed: Listed,
-) -> io::Result<()> {
+        let stored = first::<Diagnostic>(&diagnostics, diagnostic_count);
+        list_refused(outcome, stored, &mut listing)
+    };
     match listed {
-        Listed::Text(n) => line(out, listing, n),
-        Listed::Kind => say(err, b"cairolist: a node of no kind\n"),
-        Listed::Room => say(err, b"cairolist: no room for the listing\n"),
+        Ok(n) => line(out, &listing[..n]),
+        Err(ListError::Kind) => writeln!(err, "cairolist: a node of no kind"),
+        Err(ListError::Room) => writeln!(err, "cairolist: no room for the listing"),
     }
-}
-
-fn line<W: Write>(out: &mut W, listing: &[u8], n: usize) -> io::Result<()> {
-    if n > listing.len() {
-        return Ok(());
-    }
-    out.write_all(&listing[0..n])?;
-    out.write_all(b"\n")
-}
-
-// On standard error.
-fn say<E: Write>(err: &mut E, words: &[u8]) -> io::Result<()> {
-    err.write_all(words)
 }

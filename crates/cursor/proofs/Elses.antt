@@ -4,26 +4,27 @@ use mathlib.Core.Bool.{Bool, true, false}
 use mathlib.Core.List.{List}
 use Prim.Native.Nat.{ℕ, ◌+◌, ◌≤◌, min}
 use native.Mathlib.Omega.{arith}
-use native.Mathlib.Decide.{ℕ_discrete, dec_lt}
+use native.Mathlib.Decide.{dec_lt}
 use Rattle.tables.specs.Tables.{token_at}
 use Rattle.tables.specs.TokenKinds.{ELSE, LET, CONST}
 use Rattle.grammar.specs.Derive.{Input, token, R, stmt, Start, End, close, G, step, ◌&◌, rule, S, none, yields, stepped, and_left, here}
 use Rattle.grammar.specs.Grammar.{body, tok, else_part, let_stmt, const_def, statement}
 use Rattle.grammar.proofs.Unique.{unique, same}
-use Rattle.cursor.specs.Read.{LIMIT, Attempt, READING, FAILED, Represents, reached, Result, matched, failed, exceeded, Reads, still, reads, begun, ending_with, Inside, inside, Tried, Ends, ends}
+use Rattle.cursor.specs.Read.{LIMIT, Attempt, READING, FAILED, DEEP, Represents, reached, Result, matched, failed, exceeded, Reads, still, reads, begun, ending_with, Inside, inside, Tried, Ends, ends}
 use Rattle.cursor.specs.Steps.{rewound, joining}
 use Rattle.cursor.specs.declared.Cursor.{Cursor}
 use Rattle.cursor.specs.declared.Part.{Part}
+use Rattle.cursor.specs.declared.Status.{Status}
 use Rattle.cursor.specs.declared.StmtPart.{StmtPart}
 use Rattle.cursor.proofs.Attempts.{attempt_settled, attempt_and_not, attempt_or_else, attempt_absent, attempt_step, step_stays}
 use Rattle.cursor.proofs.Again.{again}
-use Rattle.cursor.proofs.Laws.{clash, some, back, no_less, idle, absent, by_part, without_first, without_second, ◌then◌}
+use Rattle.cursor.proofs.Laws.{clash, reading?, some, back, no_less, idle, absent, by_part, without_first, without_second, ◌then◌}
 use Rattle.cursor.proofs.Falls.{one_if, on, was}
 
 infixr 40 ◌then_ends◌
 -- what failed is not reading
-pub fell : {n : ℕ} → n ≡ FAILED → n ≡ READING → ⊥
-fell e z = clash 1 0 e z (omega arith)
+pub fell : {n : Status} → n ≡ FAILED → n ≡ READING → ⊥
+fell e z = clash FAILED READING e z (omega arith)
 
 unset : false ≡ true → ⊥
 unset e = omega (arith, ap one_if e)
@@ -41,7 +42,7 @@ module _ {text w : List ℕ} where
       go : (s : S) → Result g text w p s T q U → q.nest ≡ p.nest
       go s (matched t z' n v c f) = n
       go s (failed o c f) = absurd (fell o z)
-      go s (exceeded o c) = clash 2 0 o z (omega arith)
+      go s (exceeded o c) = clash DEEP READING o z (omega arith)
 
   place_kept : {k : ℕ} {a : Start} {b : End} {p q : Cursor} {T U : List ℕ} → Reads (step (close k a b)) text w p T q U → q.status ≡ READING → (q.at ≡ p.at) × (reached q ≡ reached p)
   unfolding yields
@@ -51,7 +52,7 @@ module _ {text w : List ℕ} where
       go : (s : S) → Represents p s → Result (step (close k a b)) text w p s T q U → (q.at ≡ p.at) × (reached q ≡ reached p)
       go s v (matched t z' n u c f) = (u.at ∙ ap (λ (r : S). r.at) (same (unique c.derived stepped)) ∙ sym v.at, step_stays tt c)
       go s v (failed o c f) = absurd (fell o z)
-      go s v (exceeded o c) = clash 2 0 o z (omega arith)
+      go s v (exceeded o c) = clash DEEP READING o z (omega arith)
 
   -- ---- an `else` that fails
   -- it fails at a lower nest too; nests past the limit are not told apart, and there it is missing, as it would have been taken
@@ -73,13 +74,13 @@ module _ {text w : List ℕ} where
       go : (s : S) → Represents p s → Result (tok ELSE & rule stmt) text w p s T q U → Tried text w p.nest p.at (reached q)
       go s v (matched t z' n u c f) = absurd (fell o z')
       go s v (failed o' c f) = record { fails = λ t e. again (sym v.at ∙ sym e) (omega arith) (attempt_settled (reached q) (omega arith) c) }
-      go s v (exceeded o' c) = clash 2 1 o' o (omega arith)
+      go s v (exceeded o' c) = clash DEEP FAILED o' o (omega arith)
 
   -- it need not be read
   skipped : {p : Cursor} {T : List ℕ} → (p.status ≡ READING → Tried text w p.nest p.at (reached p)) → Reads else_part text w p T p T
   unfolding yields
   skipped {p} t =
-      elim (ℕ_discrete p.status 0) [
+      elim (reading? p.status) [
         | yes z ↦ reads z (λ s v. matched s z refl v (attempt_or_else ((t z).fails s (sym v.at)) (attempt_step tt)) (λ H. H))
         | no n ↦ idle n
       ]

@@ -1,13 +1,11 @@
 -- The measure of a cycle of readers falls at each call. Assumes nothing.
 use mathlib.Core.Path.{◌≡◌, refl, sym, ap, ◌∙◌}
-use mathlib.Core.Bool.{Bool, true, false, cond, ◌&&◌, ◌||◌}
+use mathlib.Core.Bool.{Bool, true, false, ◌&&◌, ◌||◌}
 use mathlib.Core.List.{List, []}
 use Prim.Native.Nat.{ℕ, ◌+◌, ◌*◌, ◌/◌, ◌-◌, ◌<◌, ◌≤◌}
 use native.Mathlib.Omega.{arith}
-use native.Mathlib.Decide.{ℕ_discrete}
-use lib.Dec.{T as Yes, eqb}
+use lib.Dec.{T as Yes}
 use lib.ListN.{length}
-use borrow.Author.Tests.{eq-eqb, ne_eqb}
 use Rattle.tables.proofs.Laws.{tokens_length}
 use Rattle.grammar.specs.Derive.{G, S, got, Derives}
 use Rattle.grammar.specs.Grammar.{body}
@@ -15,10 +13,11 @@ use Rattle.grammar.proofs.On.{on_of}
 use Rattle.grammar.proofs.Progress.{eats, sane?, grows}
 use Rattle.grammar.proofs.Whole.{solid, takes_one}
 use Rattle.cursor.specs.Entries.{input}
-use Rattle.cursor.specs.Read.{READING, Represents, Result, matched, failed, exceeded, Reads, still, reads, Puts, puts, Grown, grown, Step, steps, Free, free, begun}
+use Rattle.cursor.specs.Read.{READING, FAILED, DEEP, Represents, Result, matched, failed, exceeded, Reads, still, reads, Puts, puts, Grown, grown, Step, steps, Free, free, begun}
 use Rattle.cursor.specs.Steps.{with_furthest, fresh_at}
 use Rattle.cursor.specs.declared.Cursor.{Cursor}
-use Rattle.cursor.proofs.Laws.{clash, some}
+use Rattle.cursor.specs.declared.Status.{Status}
+use Rattle.cursor.proofs.Laws.{clash, reading?, some}
 
 infixl 40 ◌and_on◌
 -- the tokens left
@@ -29,13 +28,27 @@ abbrev pub one_if : Bool → ℕ
 one_if true = 1
 one_if false = 0
 
+pub true_false : true ≡ false → ⊥
+true_false e = omega (arith, ap one_if e)
+
 -- where q is reading, so was p, and q is not before it; if e, it is past a token
 pub data Ahead (e : Bool) (w : List ℕ) (p q : Cursor) : Type 0 where
   ahead : (q.status ≡ READING → (p.status ≡ READING) × (ahead_of w q + one_if e ≤ ahead_of w p)) → Ahead e w p q
 
+-- a number, or 0 where nothing is being read
+abbrev pub if_reading : Status → ℕ → ℕ
+if_reading Status.Reading n = n
+if_reading Status.Failed n = 0
+if_reading Status.Deep n = 0
+
+not_reading : (s : Status) (n : ℕ) → (s ≡ READING → ⊥) → if_reading s n ≡ 0
+not_reading Status.Reading n h = absurd (h refl)
+not_reading Status.Failed n h = refl
+not_reading Status.Deep n h = refl
+
 -- a reader's measure: by the tokens left, and then by its rank
 unfoldable pub size : List ℕ → Cursor → ℕ → ℕ
-size w p n = cond (eqb p.status 0) (ahead_of w p * 64 + n + 1) 0
+size w p n = if_reading p.status (ahead_of w p * 64 + n + 1)
 
 -- a grammar that takes a token, as far as that is told by looking
 abbrev pub takes? : G → Bool
@@ -55,8 +68,8 @@ on {text} {w} {g} {p} {q} {T} {U} (reads z l) = ahead (λ z'. let (s, v) = some 
   where
     go : {s : S} → Represents p s → Result g text w p s T q U → q.status ≡ READING → ahead_of w q + one_if (takes? g) ≤ ahead_of w p
     go v (matched t z n u c f) z' = further_on text w g (eats solid g) (sane? solid g) refl refl v u c.derived
-    go v (failed z c f) z' = clash 1 0 z z' (omega arith)
-    go v (exceeded z c) z' = clash 2 0 z z' (omega arith)
+    go v (failed z c f) z' = clash FAILED READING z z' (omega arith)
+    go v (exceeded z c) z' = clash DEEP READING z z' (omega arith)
 
 pub on_put : {g : G} {w : List ℕ} {p q : Cursor} {T U : List ℕ} → Puts g w p T q U → Ahead (takes? g) w p q
 on_put (puts y) = on (y [])
@@ -108,10 +121,10 @@ module _ {w : List ℕ} where
   falls : {e : Bool} {p q : Cursor} (m n : ℕ) {t : ℕ} → size w p n ≡ t → p.status ≡ READING → Ahead e w p q → m < n + 64 * one_if e → size w q m < t
   unfolding size
   falls {e} {p} {q} m n s z (ahead y) b =
-      rw (← s, eq-eqb p.status 0 z)
-      (elim (ℕ_discrete q.status 0) [
-        | yes i ↦ let (_, k) = y i in rw (eq-eqb q.status 0 i) (omega arith)
-        | no i ↦ rw (ne_eqb q.status 0 i) (omega arith)
+      rw (← s, ap (λ (k : Status). if_reading k (ahead_of w p * 64 + n + 1)) z)
+      (elim (reading? q.status) [
+        | yes i ↦ let (_, k) = y i in rw (ap (λ (k : Status). if_reading k (ahead_of w q * 64 + m + 1)) i) (omega arith)
+        | no i ↦ rw (not_reading q.status (ahead_of w q * 64 + m + 1) i) (omega arith)
       ])
 
   -- a call past a token, at any rank m; n and t are the caller's rank and measure

@@ -4,7 +4,6 @@ use mathlib.Core.Bool.{not, ◌&&◌}
 use mathlib.Core.List.{List}
 use Prim.Native.Nat.{ℕ, ◌+◌, ◌≤◌}
 use native.Mathlib.Omega.{arith}
-use native.Mathlib.Decide.{ℕ_discrete}
 use lib.Dec.{T as Yes}
 use Rattle.tables.specs.Tables.{token_at}
 use Rattle.tables.proofs.Laws.{tokens_at}
@@ -18,22 +17,33 @@ use Rattle.grammar.proofs.Whole.{solid}
 use Rattle.grammar.proofs.First.{empties, firsts, Absent, absent?, absent_of, misses, untaken}
 use Rattle.patterns.proofs.Tests.{and_l, and_r}
 use Rattle.cursor.specs.Entries.{input}
-use Rattle.cursor.specs.Read.{LIMIT, Attempt, Exceeds, Holds, READING, FAILED, Upto, Represents, reached, Result, matched, failed, exceeded, Reads, still, reads, begun, ending, Inside, inside}
+use Rattle.cursor.specs.Read.{LIMIT, Attempt, Exceeds, Holds, READING, FAILED, DEEP, Upto, Represents, reached, Result, matched, failed, exceeded, Reads, still, reads, begun, ending, Inside, inside}
 use Rattle.cursor.specs.Read.{Puts, puts, Grown, grown, Step, steps, Free, free}
 use Rattle.cursor.specs.Steps.{with_furthest, rewound, fresh_at, joining, Left, left_still, left}
 use Rattle.cursor.specs.declared.Cursor.{Cursor}
 use Rattle.cursor.specs.declared.Part.{Part}
+use Rattle.cursor.specs.declared.Status.{Status}
 use Rattle.cursor.proofs.Attempts.{within_none, attempt_from, attempt_settled, attempt_and_not, attempt_and_then, attempt_or_first, attempt_or_else, attempt_first, attempt_second, attempt_no_more, attempt_rule, attempt_step, exceeds_and_left, exceeds_and_right, exceeds_or_left, exceeds_or_right, exceeds_first, exceeds_second, exceeds_rule}
 pub use Rattle.cursor.proofs.Cursors.{seen_as, represents_enter, represents_with, represents_leave, some}
 use Rattle.cursor.proofs.Holding.{holds_fewer}
 
 infixr 40 ◌then◌
+-- statuses told apart
+abbrev number : Status → ℕ
+number Status.Reading = 0
+number Status.Failed = 1
+number Status.Deep = 2
+
 -- ---- cursors
 -- two states of a cursor at once
-pub clash : {A : Type 0} {n : ℕ} (a b : ℕ) → n ≡ a → n ≡ b → (a ≡ b → ⊥) → A
-clash a b e f h = absurd (h (sym e ∙ f))
+pub clash : {A : Type 0} {n : Status} (a b : Status) → n ≡ a → n ≡ b → (number a ≡ number b → ⊥) → A
+clash a b e f h = absurd (h (ap number (sym e ∙ f)))
 
-pub status_as : {p q : Cursor} {n : ℕ} → q ≡ p → p.status ≡ n → q.status ≡ n
+pub reading? : (s : Status) → Dec (s ≡ READING)
+reading? Status.Reading = yes refl
+reading? s = no (λ e. clash s READING refl e (omega arith))
+
+pub status_as : {p q : Cursor} {n : Status} → q ≡ p → p.status ≡ n → q.status ≡ n
 status_as e z = ap (λ (q : Cursor). q.status) e ∙ z
 
 -- what had nodes added still has the old
@@ -49,7 +59,7 @@ as_deep e = record { upto = omega arith }
 
 -- and out of it
 leaves : {p y : Cursor} (e : Cursor) → y ≡ joining p (ending e) → Left p e y
-leaves e g = elim (ℕ_discrete e.status 0) [ yes z ↦ left z g | no n ↦ left_still n (ap (λ (q : Cursor). q.status) g) (ap reached g) ]
+leaves e g = elim (reading? e.status) [ yes z ↦ left z g | no n ↦ left_still n (ap (λ (q : Cursor). q.status) g) (ap reached g) ]
 
 -- ---- what never fails: rounds, and what may be left out
 module _ {x : Input} where
@@ -124,9 +134,9 @@ module _ {text w : List ℕ} where
   instead {g} {h} {k} {p} {p'} {q} {r} {T} {U} {W} B y o e u = go y (rw e at u)
     where
       with_failed : (s : S) → Represents p s → Result g text w p s T q U → ((s : S) → Represents (rewound p q) s → Result h text w (rewound p q) s U r W) → Result k text w p s T r W
-      with_failed s v (matched t z n v' c f) l = clash 0 1 z o (omega arith)
+      with_failed s v (matched t z n v' c f) l = clash READING FAILED z o (omega arith)
       with_failed s v (failed z c f) l = become refl (B s _ (attempt_from refl (sym (back p q c.within.up)) c)) f (l s (represents_with (reached q) p.nest v))
-      with_failed s v (exceeded z c) l = clash 2 1 z o (omega arith)
+      with_failed s v (exceeded z c) l = clash DEEP FAILED z o (omega arith)
 
       go : Reads g text w p T q U → Reads h text w (rewound p q) U r W → Reads k text w p T r W
       go (still n e i f) (still n' e' i' f') = still n e' (omega arith) (f' ∙ f)
@@ -141,7 +151,7 @@ module _ {text w : List ℕ} where
       go : {s : S} → Result g text w p s T q U → reached p ≤ reached q
       go (matched t z n v c f) = c.within.up
       go (failed z c f) = c.within.up
-      go (exceeded z c) = clash 2 1 z o (omega arith)
+      go (exceeded z c) = clash DEEP FAILED z o (omega arith)
 
   -- tokens that were taken can be read again with nothing new
   pub reread : {g : G} {p q : Cursor} {T U : List ℕ} (f : ℕ) → reached q ≤ f → Reads g text w p T q U → Reads g text w (with_furthest f p) T (with_furthest f q) U
@@ -171,9 +181,9 @@ module _ {text w : List ℕ} where
       go s (matched t z n v c f) (still h e i e') = absurd (h z)
       go s (matched t z n v c f) (reads _ l) = after s t n c f (l t v)
       go s (failed z c f) (still h e i e') = failed (e ∙ z) (attempt_from refl (sym i) (J.fails z s c)) (λ H. rw e' (f H))
-      go s (failed z c f) (reads z' l) = clash 1 0 z z' (omega arith)
+      go s (failed z c f) (reads z' l) = clash FAILED READING z z' (omega arith)
       go s (exceeded z c) (still h e i e') = exceeded (e ∙ z) (J.exceeds s c)
-      go s (exceeded z c) (reads z' l) = clash 2 0 z z' (omega arith)
+      go s (exceeded z c) (reads z' l) = clash DEEP READING z z' (omega arith)
 
   -- one part, then another
   pub ◌then◌ : {g h : G} {p q r : Cursor} {T U W : List ℕ} → Reads g text w p T q U → Reads h text w q U r W → Reads (g & h) text w p T r W
@@ -196,7 +206,7 @@ module _ {text w : List ℕ} where
   pub nothing : {p : Cursor} {T : List ℕ} → Reads (step done) text w p T p T
   unfolding yields
   nothing {p} {T} =
-      elim (ℕ_discrete p.status 0) [ yes z ↦ reads z (λ s v. matched s z refl v (attempt_step tt) (λ H. H)) | no n ↦ idle n ]
+      elim (reading? p.status) [ yes z ↦ reads z (λ s v. matched s z refl v (attempt_step tt) (λ H. H)) | no n ↦ idle n ]
 
   -- nothing, where what may be there failed
   pub absent : {g : G} {p p' q : Cursor} {T U : List ℕ} → Reads g text w p T q U → q.status ≡ FAILED → p' ≡ rewound p q → Reads (g or step done) text w p T p' U
@@ -207,9 +217,9 @@ module _ {text w : List ℕ} where
   never_failed {g} {p} {q} {T} {U} never (reads z l) h o = let (s, v) = some p in go s v (l s v)
     where
       go : (s : S) → Represents p s → Result g text w p s T q U → ⊥
-      go s v (matched t z n v' c f) = clash 0 1 z o (omega arith)
+      go s v (matched t z n v' c f) = clash READING FAILED z o (omega arith)
       go s v (failed z c f) = never s v c.derived
-      go s v (exceeded z c) = clash 2 1 z o (omega arith)
+      go s v (exceeded z c) = clash DEEP FAILED z o (omega arith)
 
   pub fine : {g : G} {p q : Cursor} {T U : List ℕ} → Reads (many g) text w p T q U → (p.status ≡ FAILED → ⊥) → q.status ≡ FAILED → ⊥
   fine = never_failed (λ u v. many_never u)
@@ -225,9 +235,9 @@ module _ {text w : List ℕ} where
       go v (matched t z' m' v' c f) (left_still h i j) = absurd (h z')
       go v (matched t z' m' v' c f) (left _ i) = matched _ (status_as i z') (ap (λ (q : Cursor). q.nest) i) (seen_as i (represents_leave v v')) (attempt_from refl (sym (ap reached i)) (attempt_rule m c)) f
       go v (failed z' c f) (left_still h i j) = failed (i ∙ z') (attempt_from refl (sym j) (attempt_rule m c)) f
-      go v (failed z' c f) (left z'' i) = clash 1 0 z' z'' (omega arith)
+      go v (failed z' c f) (left z'' i) = clash FAILED READING z' z'' (omega arith)
       go v (exceeded z' c) (left_still h i j) = exceeded (i ∙ z') (exceeds_rule m c)
-      go v (exceeded z' c) (left z'' i) = clash 2 0 z' z'' (omega arith)
+      go v (exceeded z' c) (left z'' i) = clash DEEP READING z' z'' (omega arith)
 
   pub by_rule : (r : R) {p q q' y : Cursor} {T U : List ℕ} → nests r ≡ 0 → p.status ≡ READING → q ≡ fresh_at p.at p → Reads (body r) text w q T q' U → Left p q' y → Reads (rule r) text w p T y U
   by_rule r {p} e z i u l = ruled_by r (as_deep e) z (rw (i, begun_in p z) at u) l
@@ -260,7 +270,7 @@ module _ {text w : List ℕ} where
   -- no round, where it cannot begin so
   pub many_miss : {k : ℕ} {g : G} {p : Cursor} {T : List ℕ} → k ≡ (token_at w p.at).kind → Absent k (firsts g) → Yes (not (empties g) && sane? solid g) → Reads (many g) text w p T p T
   many_miss {p = p} e a y =
-      elim (ℕ_discrete p.status 0) [ yes z ↦ reads z (λ s v. matched s z refl v (attempt_no_more (missed text w e a y v)) (λ H. H)) | no n ↦ idle n ]
+      elim (reading? p.status) [ yes z ↦ reads z (λ s v. matched s z refl v (attempt_no_more (missed text w e a y v)) (λ H. H)) | no n ↦ idle n ]
 
   -- ---- a wrapper's contract, as a reader's
   pub one_put : {g : G} {p r : Cursor} {T U : List ℕ} → Puts g w p T r U → Reads g text w p T r U

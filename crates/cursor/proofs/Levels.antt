@@ -1,11 +1,13 @@
 -- The binary levels: each goes on from what the level below has read, in one loop. Assumes nothing.
 use mathlib.Core.Path.{◌≡◌, refl, sym, ap, ◌∙◌}
 use mathlib.Core.Bool.{true, false, not, ◌&&◌}
+use Rattle.std.specs.Prelude.{nat_le}
+use Rattle.std.proofs.lemmas.Bool.{le-leb}
 use mathlib.Core.List.{List}
 use Prim.Native.Nat.{ℕ, zero, suc, ◌+◌, ◌<◌, ◌≤◌}
 use native.Mathlib.Omega.{arith}
 use native.Mathlib.Numerals.{add-one}
-use native.Mathlib.Decide.{ℕ_discrete}
+use native.Mathlib.Decide.{ℕ_discrete, dec_lt}
 use lib.Dec.{T as Yes, eqb}
 use lib.ListN.{length}
 use borrow.Author.Tests.{eq-eqb}
@@ -23,7 +25,7 @@ use Rattle.cursor.specs.Read.{Represents, Result, matched, failed, exceeded, Rea
 use Rattle.cursor.specs.declared.Cursor.{Cursor}
 use Rattle.cursor.proofs.Attempts.{attempt_rule, attempt_as, exceeds_rule}
 use Rattle.cursor.proofs.Laws.{◌then◌, as_deep, many_miss}
-use Rattle.cursor.proofs.Falls.{Ahead, takes?, on as further_on, on_step, ◌and_on◌, at_here, weaken}
+use Rattle.cursor.proofs.Falls.{Ahead, true_false, takes?, on as further_on, on_step, ◌and_on◌, at_here, weaken}
 
 -- ---- operators
 pub at_level : {w : List ℕ} {p q : Cursor} {n m : ℕ} → n ≡ m → Step (operator m) w p q → Step (operator n) w p q
@@ -50,6 +52,13 @@ on_operator n y = rw (takes_operator n) at (on_step y)
 pub data NoOperator (k : ℕ) : Type 0 where
   below_all : k < ANDAND → NoOperator k
   above_all : MOD < k → NoOperator k
+
+pub no_operator : {k : ℕ} → false ≡ (nat_le ANDAND k && nat_le k MOD) → NoOperator k
+no_operator {k} e =
+    elim (dec_lt k ANDAND) [
+      | yes h ↦ below_all h
+      | no h ↦ elim (dec_lt MOD k) [ yes l ↦ above_all l | no l ↦ absurd (true_false (rw (le-leb ANDAND k (omega arith), le-leb k MOD (omega arith)) at (sym e))) ]
+    ]
 
 no_link : {k : ℕ} (n : ℕ) → NoOperator k → Absent k (firsts (link n))
 no_link zero (below_all h) = omega arith

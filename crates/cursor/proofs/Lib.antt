@@ -12,4 +12,5 @@ pub mod Steps
 pub mod Prefixes
 pub mod Levels
 pub mod Operands
+pub mod Told
 pub mod Reading

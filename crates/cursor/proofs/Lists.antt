@@ -69,7 +69,7 @@ module _ {text w : List ℕ} where
   listing_none {g} {p₀} {p} {p'} {q} {T₀} {T} {U} L z y o e = go L.so_far y
     where
       go : SoFar text w g p₀ T₀ p T → Reads g text w p T q U → Reads (list g) text w p₀ T₀ p' U
-      go (none_yet i j) y = absent ((rw (i, j) at y) then idle (λ z. clash 1 0 o z (omega arith))) o (rw i at e)
+      go (none_yet i j) y = absent ((rw (i, j) at y) then idle (λ z. clash FAILED READING o z (omega arith))) o (rw i at e)
       go (past_comma y₀ n₀ L₀ c₀ m) y =
           list_of y₀ n₀ (rounds_end L₀ (was (on_step c₀) z) (one_step c₀ then y) o refl) (rw e (first (reread (reached q) (no_less y o) (one_step c₀)) m))
 
@@ -92,11 +92,11 @@ module _ {text w : List ℕ} where
 
   -- ---- it is not
   pub entries_none : {g : G} {p p' q : Cursor} {T U : List ℕ} → Reads g text w p T q U → q.status ≡ FAILED → p' ≡ rewound p q → Reads (entries g) text w p T p' U
-  entries_none y o = absent (y then idle (λ z. clash 1 0 o z (omega arith))) o
+  entries_none y o = absent (y then idle (λ z. clash FAILED READING o z (omega arith))) o
 
   pub entries_end : {g : G} {p q r e r' : Cursor} {T U W X : List ℕ} → Reads g text w p T q U → (q.status ≡ FAILED → ⊥) → Looping text w (another g) q U r W → r.status ≡ READING
       → Reads (another g) text w r W r' X → r'.status ≡ FAILED → e ≡ rewound r r' → Reads (entries g) text w p T e X
-  entries_end y n L z u o e = first (y then rounds_end L z u o e) (λ f. clash 0 1 z (status_as (sym e) f) (omega arith))
+  entries_end y n L z u o e = first (y then rounds_end L z u o e) (λ f. clash READING FAILED z (status_as (sym e) f) (omega arith))
 
   pub entries_off : {g : G} {p q r : Cursor} {T U W : List ℕ} → Reads g text w p T q U → (q.status ≡ FAILED → ⊥) → Looping text w (another g) q U r W → (r.status ≡ READING → ⊥)
       → Reads (entries g) text w p T r W

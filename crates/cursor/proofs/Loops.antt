@@ -12,12 +12,12 @@ use Rattle.grammar.proofs.Progress.{sane?}
 use Rattle.grammar.proofs.Whole.{solid}
 use Rattle.grammar.proofs.First.{empties, firsts, Absent, absent?, absent_of}
 use Rattle.grammar.specs.Derive.{G, ◌&◌, many, S}
-use Rattle.cursor.specs.Read.{READING, FAILED, Represents, reached, Result, matched, failed, exceeded, Reads, still, reads}
+use Rattle.cursor.specs.Read.{READING, FAILED, DEEP, Represents, reached, Result, matched, failed, exceeded, Reads, still, reads}
 use Rattle.cursor.specs.Steps.{rewound}
 use Rattle.cursor.specs.declared.Cursor.{Cursor}
 use Rattle.cursor.proofs.Attempts.{attempt_from, attempt_no_more, attempt_one_more, exceeds_now, exceeds_later}
 use Rattle.cursor.proofs.Laws.{clash, status_as, represents_with, back, idle, joined, many_miss, ◌then◌}
-use Rattle.cursor.proofs.Falls.{Ahead, one_if, on, ◌and_on◌, at_here, weaken}
+use Rattle.cursor.proofs.Falls.{Ahead, true_false, on, ◌and_on◌, at_here, weaken}
 
 -- so many rounds after p₀ and T₀: what `many g` reads from there on it reads from p₀; how far on that is; the table's length
 pub record Looping (text w : List ℕ) (g : G) (p₀ : Cursor) (T₀ : List ℕ) (p : Cursor) (T : List ℕ) : Type 0 where
@@ -51,9 +51,9 @@ module _ {text w : List ℕ} where
   rounds_end {g} {p₀} {p} {p'} {q} {T₀} {T} {U} L z y o e = L.rounds p' U (rw e (last y))
     where
       none_more : (s : S) → Represents p s → Result g text w p s T q U → Result (many g) text w p s T (rewound p q) U
-      none_more s v (matched t z' n v' c f) = clash 0 1 z' o (omega arith)
+      none_more s v (matched t z' n v' c f) = clash READING FAILED z' o (omega arith)
       none_more s v (failed z' c f) = matched s z refl (represents_with (reached q) p.nest v) (attempt_from refl (sym (back p q c.within.up)) (attempt_no_more c)) f
-      none_more s v (exceeded z' c) = clash 2 1 z' o (omega arith)
+      none_more s v (exceeded z' c) = clash DEEP FAILED z' o (omega arith)
 
       last : Reads g text w p T q U → Reads (many g) text w p T (rewound p q) U
       last (still n e i f) = absurd (n z)
@@ -82,9 +82,6 @@ pub record Leading (text w : List ℕ) (g h : G) (p₀ : Cursor) (T₀ : List �
   pub so_far : Led text w g h p₀ T₀ first p T
   pub on : Ahead false w p₀ p
   pub kept : length T ≡ length T₀
-
-true_false : true ≡ false → ⊥
-true_false e = omega (arith, ap one_if e)
 
 module _ {text w : List ℕ} {g h : G} where
   pub leading_begin : {p : Cursor} {T : List ℕ} → Leading text w g h p T true p T

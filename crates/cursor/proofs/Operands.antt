@@ -1,5 +1,6 @@
 -- A name or a numeral alone, read with no look at what it could have been. Assumes nothing.
 use mathlib.Core.Path.{◌≡◌, refl, sym, ap, ◌∙◌}
+use mathlib.Core.Bool.{true, false}
 use mathlib.Core.List.{List, [], ◌∷◌}
 use Prim.Native.Nat.{ℕ, suc, ◌+◌, ◌≤◌, ◌<◌, max}
 use native.Mathlib.Omega.{arith}
@@ -13,14 +14,25 @@ use Rattle.grammar.proofs.Unique.{unique, apart}
 use Rattle.grammar.proofs.First.{Absent, misses}
 use Rattle.cursor.specs.Entries.{input}
 use Rattle.cursor.specs.Read.{LIMIT, Attempt, Exceeds, Represents, Reads}
-use Rattle.cursor.specs.Steps.{Over, Plain, plain_name, plain_numeral, not_plain}
+use Rattle.cursor.specs.Steps.{continues}
 use Rattle.cursor.specs.declared.Cursor.{Cursor}
 use Rattle.cursor.proofs.Attempts.{within_one, attempt_as, attempt_and_not, attempt_and_then, attempt_or_first, attempt_or_else, attempt_no_more, attempt_rule, attempt_take, attempt_there, attempt_absent}
 use Rattle.cursor.proofs.Attempts.{exceeds_and_left, exceeds_or_left, exceeds_or_right, exceeds_rule, exceeds_take}
-use Rattle.cursor.proofs.Laws.{turned, miss, as_deep, clash}
+use Rattle.cursor.proofs.Laws.{turned, miss, as_deep}
+use Rattle.cursor.proofs.Falls.{true_false}
 
-pub over : {k : ℕ} → (k ≡ LPAREN → ⊥) → (k ≡ DOT → ⊥) → (k ≡ LBRACK → ⊥) → (k ≡ LBRACE → ⊥) → Over k
-over a b c d = record { no_call = a; no_field = b; no_index = c; no_struct = d }
+-- a token that continues no name or numeral before it
+record Over (k : ℕ) : Type 0 where
+  no_call : k ≡ LPAREN → ⊥
+  no_field : k ≡ DOT → ⊥
+  no_index : k ≡ LBRACK → ⊥
+  no_struct : k ≡ LBRACE → ⊥
+
+over : {k : ℕ} → false ≡ continues k → Over k
+over {k} e = record { no_call = λ f. never (rw f at e); no_field = λ f. never (rw f at e); no_index = λ f. never (rw f at e); no_struct = λ f. never (rw f at e) }
+  where
+    never : false ≡ true → ⊥
+    never e = true_false (sym e)
 
 module _ {x : Input} {n : ℕ} where
   atom_name : {j : ℕ} {s : S} {a b : ℕ} → (token x s.at).kind ≡ IDENT → j ≡ (token x (suc s.at)).kind → Over j → n ≤ LIMIT → s.at ≤ a → b ≡ max (s.at + 1) a
@@ -92,12 +104,11 @@ kind_is text w i e = e ∙ ap (λ (t : Token). t.kind) (sym (tokens_at w i))
 next_is : (text w : List ℕ) {j : ℕ} {p : Cursor} {s : S} → j ≡ (token_at w (p.at + 1)).kind → Represents p s → j ≡ (token (input text w) (suc s.at)).kind
 next_is text w {p = p} {s = s} f v = let e : p.at + 1 ≡ suc s.at = omega (arith, v.at) in kind_is text w (suc s.at) (rw e at f)
 
-module _ {text w : List ℕ} {p q : Cursor} {T U : List ℕ} {k j r : ℕ} where
-  pub name_alone : k ≡ (token_at w p.at).kind → j ≡ (token_at w (p.at + 1)).kind → Plain k j r → r ≡ 1 → Reads (step (take IDENT (leaf Identifier 0))) text w p T q U → Reads (rule unary) text w p T q U
+module _ {text w : List ℕ} {p q : Cursor} {T U : List ℕ} {k j : ℕ} where
+  pub name_alone : k ≡ (token_at w p.at).kind → j ≡ (token_at w (p.at + 1)).kind → false ≡ continues j → k ≡ IDENT → Reads (step (take IDENT (leaf Identifier 0))) text w p T q U → Reads (rule unary) text w p T q U
   unfolding leave part
-  name_alone e f (plain_numeral z i o) h y = clash 2 1 z h (omega arith)
-  name_alone e f (not_plain z) h y = clash 0 1 z h (omega arith)
-  name_alone e f (plain_name z i o) h y =
+  name_alone e f d i y =
+      let o = over d in
       turned (λ s v.
       let a : (token (input text w) s.at).kind ≡ IDENT = sym (kind_is text w s.at (rw v.at at e)) ∙ i in
       record {
@@ -106,11 +117,10 @@ module _ {text w : List ℕ} {p q : Cursor} {T U : List ℕ} {k j r : ℕ} where
         exceeds = λ c. name_exceeds a (past_limit c);
       }) y
 
-  pub numeral_alone : k ≡ (token_at w p.at).kind → j ≡ (token_at w (p.at + 1)).kind → Plain k j r → r ≡ 2 → Reads (numeral literal) text w p T q U → Reads (rule unary) text w p T q U
+  pub numeral_alone : k ≡ (token_at w p.at).kind → j ≡ (token_at w (p.at + 1)).kind → false ≡ continues j → k ≡ NUMBER → Reads (numeral literal) text w p T q U → Reads (rule unary) text w p T q U
   unfolding leave part
-  numeral_alone e f (plain_name z i o) h y = clash 1 2 z h (omega arith)
-  numeral_alone e f (not_plain z) h y = clash 0 2 z h (omega arith)
-  numeral_alone e f (plain_numeral z i o) h y =
+  numeral_alone e f d i y =
+      let o = over d in
       turned (λ s v.
       let a : (token (input text w) s.at).kind ≡ NUMBER = sym (kind_is text w s.at (rw v.at at e)) ∙ i in
       record {

@@ -1,21 +1,27 @@
 -- Prefixes, read by a loop: they are counted, the operand is read past them, and each then makes a node. Assumes nothing.
 use mathlib.Core.Path.{◌≡◌, refl, sym, ap, subst, ◌∙◌}
-use mathlib.Core.Bool.{false}
+use mathlib.Core.Bool.{true, false}
 use mathlib.Core.List.{List}
 use Prim.Native.Nat.{ℕ, ◌+◌, ◌-◌, ◌/◌, ◌<◌, ◌≤◌}
 use native.Mathlib.Omega.{arith}
 use native.Mathlib.Decide.{dec_lt, ℕ_discrete}
+use Rattle.std.specs.Prelude.{Option, Some, None, is_some}
 use lib.ListN.{length}
+use Rattle.std.proofs.lemmas.Option.{none-some, same_Some}
 use Rattle.tables.specs.Tables.{token_at}
 use Rattle.tables.specs.TokenKinds.{NOT, MINUS}
 use Rattle.grammar.specs.Kinds.{Unary}
 use Rattle.grammar.specs.Derive.{unary, close, first_token, last_part, step, ◌&◌, many}
 use Rattle.grammar.specs.Grammar.{body, atom, postfix, op}
 use Rattle.cursor.specs.Read.{LIMIT, READING, DEEP, Reads, Puts, puts}
-use Rattle.cursor.specs.Steps.{Halted, was_halted, halts, Left, fresh_at, signed_at, Restarted, restarts, restarts_deep, Prefix, no_prefix, a_not, a_minus, Prefixes, Unwound, too_deep, advanced}
+use Rattle.cursor.specs.Steps.{Halted, was_halted, halts, Left, fresh_at, signed_at, Restarted, restarts, restarts_deep, Prefix, no_prefix, a_not, a_minus, unary_number, Prefixes, Unwound, too_deep, advanced}
 use Rattle.cursor.specs.declared.Cursor.{Cursor}
+use Rattle.cursor.specs.declared.Status.{Status}
+use Rattle.grammar.specs.declared.node_value.UnaryOp.{UnaryOp}
+use Rattle.grammar.specs.contracts.node_value.UnaryOp.{the_type}
+use denote.Enum.Declared.{tag_of}
 use Rattle.cursor.proofs.Laws.{clash, status_as, only, pass, ◌then◌, by_rule, idle}
-use Rattle.cursor.proofs.Falls.{Ahead, ahead, ahead_of}
+use Rattle.cursor.proofs.Falls.{Ahead, ahead, ahead_of, true_false}
 use Rattle.cursor.proofs.Steps.{stopped, marks, halted, past_all}
 
 -- a token of a kind other than 0 is there
@@ -26,39 +32,43 @@ there w i e h =
       | no y ↦ absurd (past_all w i refl (omega arith) h e)
     ]
 
-same_prefix : {k r s : ℕ} → Prefix k r → Prefix k s → r ≡ 0 → s ≡ 0
-same_prefix (no_prefix e a b) (no_prefix f c d) z = f
-same_prefix (no_prefix e a b) (a_not f c) z = absurd (a c)
-same_prefix (no_prefix e a b) (a_minus f c) z = absurd (b c)
-same_prefix (a_not e a) y z = clash 1 0 e z (omega arith)
-same_prefix (a_minus e a) y z = clash 2 0 e z (omega arith)
+-- a kind that is a prefix is not none
+not_none : {k : ℕ} {r : Option UnaryOp} → Prefix k r → (r ≡ None → ⊥) → Prefix k None → ⊥
+not_none (no_prefix e a b) h y = h e
+not_none (a_not e a) h (no_prefix f c d) = c a
+not_none (a_not e a) h (a_not f c) = none-some _ f
+not_none (a_not e a) h (a_minus f c) = none-some _ f
+not_none (a_minus e a) h (no_prefix f c d) = d a
+not_none (a_minus e a) h (a_not f c) = none-some _ f
+not_none (a_minus e a) h (a_minus f c) = none-some _ f
 
-prefix_there : (w : List ℕ) (i : ℕ) {k r : ℕ} → k ≡ (token_at w i).kind → Prefix k r → (r ≡ 0 → ⊥) → i < length w / 16
+prefix_there : (w : List ℕ) (i : ℕ) {k : ℕ} {r : Option UnaryOp} → k ≡ (token_at w i).kind → Prefix k r → (r ≡ None → ⊥) → i < length w / 16
 prefix_there w i e (no_prefix f a b) n = absurd (n f)
 prefix_there w i e (a_not f a) n = there w i (sym e ∙ a) (omega arith)
 prefix_there w i e (a_minus f a) n = there w i (sym e ∙ a) (omega arith)
 
 -- ---- counting them: the invariant of the loop that does
-pub record Counting (w : List ℕ) (at end s : ℕ) : Type 0 where
+pub record Counting (w : List ℕ) (at end : ℕ) : Type 0 where
   pub up : at ≤ end
-  pub each : (i : ℕ) → at ≤ i → i < end → (r : ℕ) → Prefix (token_at w i).kind r → r ≡ 0 → ⊥
-  pub here : Prefix (token_at w end).kind s
+  pub each : (i : ℕ) → at ≤ i → i < end → Prefix (token_at w i).kind None → ⊥
 
-pub counting_none : {w : List ℕ} {at k s : ℕ} → k ≡ (token_at w at).kind → Prefix k s → Counting w at at s
-counting_none e y = record { up = omega arith; each = λ i h l. absurd (omega arith); here = rw e at y }
+pub counting_none : {w : List ℕ} {at : ℕ} → Counting w at at
+counting_none = record { up = omega arith; each = λ i h l. absurd (omega arith) }
 
-pub counting_in : {w : List ℕ} {at e s : ℕ} → Counting w at e s → (s ≡ 0 → ⊥) → e < length w / 16
-counting_in {w} {e = e} c h = prefix_there w e refl c.here h
+-- a prefix more
+pub counting_in : (w : List ℕ) (e : ℕ) {k : ℕ} {s : Option UnaryOp} → k ≡ (token_at w e).kind → Prefix k s → true ≡ is_some s → e < length w / 16
+counting_in w e f y h = prefix_there w e f y (λ z. true_false (rw z at h))
 
-pub counting_more : {w : List ℕ} {at e k s s' : ℕ} → Counting w at e s → (s ≡ 0 → ⊥) → k ≡ (token_at w (e + 1)).kind → Prefix k s' → Counting w at (e + 1) s'
-counting_more {w} {at} {e} {s = s} c h f y = record { up = omega (arith, c.up); each = λ i l u. go i l u (dec_lt i e); here = rw f at y }
+pub counting_more : {w : List ℕ} {at e k : ℕ} {s : Option UnaryOp} → Counting w at e → k ≡ (token_at w e).kind → Prefix k s → true ≡ is_some s → Counting w at (e + 1)
+counting_more {w} {at} {e} {s = s} c f y h = record { up = omega (arith, c.up); each = λ i l u. go i l u (dec_lt i e) }
   where
-    go : (i : ℕ) → at ≤ i → i < e + 1 → Dec (i < e) → (r : ℕ) → Prefix (token_at w i).kind r → r ≡ 0 → ⊥
-    go i l u (yes q) r z o = c.each i l q r z o
-    go i l u (no q) r z o = let j : i ≡ e = omega arith in h (same_prefix (rw j at z) c.here o)
+    go : (i : ℕ) → at ≤ i → i < e + 1 → Dec (i < e) → Prefix (token_at w i).kind None → ⊥
+    go i l u (yes q) z = c.each i l q z
+    go i l u (no q) z = let j : i ≡ e = omega arith in not_none y (λ z. true_false (rw z at h)) (rw (j, ← f) at z)
 
-pub counting_end : {w : List ℕ} {at e s : ℕ} → Counting w at e s → s ≡ 0 → Prefixes w at e
-counting_end c z = record { up = c.up; each = c.each; over = rw z at c.here }
+pub counting_end : {w : List ℕ} {at e k : ℕ} {s : Option UnaryOp} → Counting w at e → k ≡ (token_at w e).kind → Prefix k s → false ≡ is_some s → Prefixes w at e
+counting_end {s = None} c f y z = record { up = c.up; each = c.each; over = rw f at y }
+counting_end {s = Some o} c f y z = absurd (true_false (sym z))
 
 -- ---- making nodes of them again, the last first
 -- the prefix before e is taken
@@ -67,19 +77,23 @@ takes : {text w T : List ℕ} {j : ℕ} (p : Cursor) (e v : ℕ) → p.status �
 takes {text} {w} {T} {j} p e v z h l i b =
     subst (λ (a : ℕ). Reads (op j v) text w (fresh_at (e - 1) p) T (signed_at (e - 1) a v p) T) (omega arith) (marks (advanced z i h (there w (e - 1) i b) refl) z)
 
-module _ {text w : List ℕ} (p : Cursor) {q q' r : Cursor} {T U W : List ℕ} (e k : ℕ) {m : ℕ} where
+module _ {text w : List ℕ} (p : Cursor) {q q' r : Cursor} {T U W : List ℕ} (e k : ℕ) {s : Option UnaryOp} {o : UnaryOp} where
   -- and what was read from e on is its operand
-  one_more : p.status ≡ READING → p.nest ≤ LIMIT → 1 ≤ e → k ≡ (token_at w (e - 1)).kind → Prefix k m → (m ≡ 0 → ⊥)
-      → Reads (body unary) text w (fresh_at e p) T q U → Left (signed_at (e - 1) e (m - 1) p) q q' → Reads (step (close Unary first_token last_part)) text w q' U r W
+  one_more : p.status ≡ READING → p.nest ≤ LIMIT → 1 ≤ e → k ≡ (token_at w (e - 1)).kind → Prefix k s → s ≡ Some o
+      → Reads (body unary) text w (fresh_at e p) T q U → Left (signed_at (e - 1) e (unary_number o) p) q q' → Reads (step (close Unary first_token last_part)) text w q' U r W
       → Reads (body unary) text w (fresh_at (e - 1) p) T r W
   unfolding body
-  one_more z h l i (no_prefix f a c) g y l₁ d = absurd (g f)
+  one_more z h l i (no_prefix f a c) g y l₁ d = absurd (none-some _ (sym f ∙ g))
   one_more z h l i (a_not f a) g y l₁ d =
-      let n : m - 1 ≡ 0 = omega arith in
+      let n : unary_number o ≡ 0 = ap unary_number (same_Some _ _ (sym g ∙ f)) in
       only i a tt (only i a tt (takes p e 0 z h l (sym i ∙ a) (omega arith)) then by_rule unary refl z refl y (rw n at l₁) then d)
   one_more z h l i (a_minus f a) g y l₁ d =
-      let n : m - 1 ≡ 1 = omega arith in
+      let n : unary_number o ≡ 1 = ap unary_number (same_Some _ _ (sym g ∙ f)) in
       only i a tt (pass i (omega arith) tt (takes p e 1 z h l (sym i ∙ a) (omega arith)) then by_rule unary refl z refl y (rw n at l₁) then d)
+
+unary_tag : (o : UnaryOp) → tag_of the_type o ≡ unary_number o
+unary_tag UnaryOp.Not = refl
+unary_tag UnaryOp.Neg = refl
 
 -- the invariant of the loop that goes back over them
 pub record Unwinding (w : List ℕ) (p : Cursor) (e₀ : ℕ) (q : Cursor) (T : List ℕ) (e : ℕ) (r : Cursor) (U : List ℕ) : Type 0 where
@@ -92,20 +106,21 @@ pub record Unwinding (w : List ℕ) (p : Cursor) (e₀ : ℕ) (q : Cursor) (T : 
 pub unwinding_none : {w : List ℕ} {p : Cursor} {e : ℕ} {q : Cursor} {T : List ℕ} → Unwinding w p e q T e q T
 unwinding_none = record { up = λ P z h text T₀ y. y; low = λ h. h; high = omega arith; kept = refl }
 
-module _ {w : List ℕ} (p : Cursor) {e₀ : ℕ} {q r : Cursor} {T U : List ℕ} (e k : ℕ) {s : ℕ} where
-  pub unwinding_more : {r' r'' : Cursor} {W : List ℕ} → Unwinding w p e₀ q T e r U → p.at < e → k ≡ (token_at w (e - 1)).kind → Prefix k s → (s ≡ 0 → ⊥) → Left (signed_at (e - 1) e (s - 1) p) r r'
+module _ {w : List ℕ} (p : Cursor) {e₀ : ℕ} {q r : Cursor} {T U : List ℕ} (e k : ℕ) {s : Option UnaryOp} where
+  pub unwinding_more : {o : UnaryOp} {q' r' r'' : Cursor} {W : List ℕ} → Unwinding w p e₀ q T e r U → p.at < e → k ≡ (token_at w (e - 1)).kind → Prefix k s → s ≡ Some o → q' ≡ signed_at (e - 1) (e - 1 + 1) (tag_of the_type o) p → Left q' r r'
       → Puts (step (close Unary first_token last_part)) w r' U r'' W → length W ≡ length U → Unwinding w p e₀ q T (e - 1) r'' W
-  unwinding_more u h f y o l (puts c) kept =
+  unwinding_more {o = o} u h f y g i l (puts c) kept =
+      let back : e - 1 + 1 ≡ e = omega arith in
       record {
-        up = λ P z n text T₀ i. one_more p e k z (n (omega (arith, u.high))) (omega arith) f y o (u.up P z n text T₀ i) l (c text);
+        up = λ P z n text T₀ j. one_more p e k z (n (omega (arith, u.high))) (omega arith) f y g (u.up P z n text T₀ j) (rw (i, back, unary_tag o) at l) (c text);
         low = λ i. omega arith;
         high = omega (arith, u.high);
         kept = kept ∙ u.kept;
       }
 
   -- between them there is none
-  pub unwound_never : Unwinding w p e₀ q T e r U → p.at < e → k ≡ (token_at w (e - 1)).kind → Prefix k s → s ≡ 0 → Unwound w p e₀ q T r U
-  unwound_never u h f y z = record { up = λ P i n text T₀ y'. absurd (P.each (e - 1) (omega arith) (omega (arith, u.high)) _ (rw f at y) z) }
+  pub unwound_never : Unwinding w p e₀ q T e r U → p.at < e → k ≡ (token_at w (e - 1)).kind → Prefix k s → s ≡ None → Unwound w p e₀ q T r U
+  unwound_never u h f y z = record { up = λ P i n text T₀ y'. absurd (P.each (e - 1) (omega arith) (omega (arith, u.high)) (rw (f, z) at y)) }
 
 pub unwound : {w : List ℕ} {p : Cursor} {e₀ : ℕ} {q r : Cursor} {T U : List ℕ} {e : ℕ} → Unwinding w p e₀ q T e r U → e ≤ p.at → Unwound w p e₀ q T r U
 unwound {p = p} {e = e} u h =
@@ -118,13 +133,13 @@ at_operand {p = p} {q = q} a (restarts_deep h n l) = ahead (λ z. never l z)
   where
     never : {A : Type 0} → Halted DEEP p q → q.status ≡ READING → A
     never (was_halted n e) z = absurd (n (ap (λ (r : Cursor). r.status) (sym e) ∙ z))
-    never (halts i e) z = clash 2 0 (status_as e refl) z (omega arith)
+    never (halts i e) z = clash DEEP READING (status_as e refl) z (omega arith)
 at_operand a (restarts h i) = rw i (ahead (λ z. (z, omega (arith, a.up))))
 
-pub just_entered : {a c f n s : ℕ} {q : Cursor} → q ≡ record { at = a; count = c; furthest = f; nest = n; status = s; first = a; parts = 0; mark = 0; from = 0; to = 0 } → fresh_at q.at q ≡ q
+pub just_entered : {a c f n : ℕ} {s : Status} {q : Cursor} → q ≡ record { at = a; count = c; furthest = f; nest = n; status = s; first = a; parts = 0; mark = 0; from = 0; to = 0 } → fresh_at q.at q ≡ q
 just_entered e = rw e refl
 
-pub reading_in : {a c f n s : ℕ} {q : Cursor} → q ≡ record { at = a; count = c; furthest = f; nest = n; status = s; first = a; parts = 0; mark = 0; from = 0; to = 0 } → s ≡ READING → q.status ≡ READING
+pub reading_in : {a c f n : ℕ} {s : Status} {q : Cursor} → q ≡ record { at = a; count = c; furthest = f; nest = n; status = s; first = a; parts = 0; mark = 0; from = 0; to = 0 } → s ≡ READING → q.status ≡ READING
 reading_in e z = rw e z
 
 module _ {text w : List ℕ} {p : Cursor} {e : ℕ} (z : p.status ≡ READING) (a : Prefixes w p.at e) where
@@ -135,17 +150,17 @@ module _ {text w : List ℕ} {p : Cursor} {e : ℕ} (z : p.status ≡ READING) (
   unary_deep {q} {T} (restarts_deep h d l) n = go (ℕ_discrete (token_at w p.at).kind NOT) (ℕ_discrete (token_at w p.at).kind MINUS)
     where
       go : Dec ((token_at w p.at).kind ≡ NOT) → Dec ((token_at w p.at).kind ≡ MINUS) → Reads (body unary) text w p T q T
-      go (yes u) _ = only refl u tt (only refl u tt (stopped (omega arith) (too_deep z u d (status_as (halted z l) refl)) n) then idle n then idle n)
-      go (no u) (yes v) = only refl v tt (pass refl (u, tt) tt (stopped (omega arith) (too_deep z v d (status_as (halted z l) refl)) n) then idle n then idle n)
-      go (no u) (no v) = absurd (a.each p.at (omega arith) h 0 (no_prefix refl u v) refl)
+      go (yes u) _ = only refl u tt (only refl u tt (stopped (too_deep z u d (status_as (halted z l) refl)) n) then idle n then idle n)
+      go (no u) (yes v) = only refl v tt (pass refl (u, tt) tt (stopped (too_deep z v d (status_as (halted z l) refl)) n) then idle n then idle n)
+      go (no u) (no v) = absurd (a.each p.at (omega arith) h (no_prefix refl u v))
 
   -- prefixes, if any, and their operand
   pub unary_reads : {q₀ q r : Cursor} {T U W : List ℕ} → fresh_at p.at p ≡ p → Restarted e p q₀ → q₀.status ≡ READING → Reads (atom & many postfix) text w q₀ T q U → Unwound w p e q U r W → Reads (body unary) text w p T r W
   unfolding body
-  unary_reads f (restarts_deep h d l) i o u = clash 2 0 (status_as (halted z l) refl) i (omega arith)
+  unary_reads f (restarts_deep h d l) i o u = clash DEEP READING (status_as (halted z l) refl) i (omega arith)
   unary_reads {T = T} f (restarts h j) i o u = rw f at (u.up a z h text T (pass refl (off a.over) tt (rw j at o)))
     where
-      off : Prefix (token_at w e).kind 0 → ((token_at w e).kind ≡ NOT → ⊥) × (((token_at w e).kind ≡ MINUS → ⊥) × Unit {0})
+      off : Prefix (token_at w e).kind None → ((token_at w e).kind ≡ NOT → ⊥) × (((token_at w e).kind ≡ MINUS → ⊥) × Unit {0})
       off (no_prefix f a c) = (a, (c, tt))
-      off (a_not f a) = clash 0 1 refl f (omega arith)
-      off (a_minus f a) = clash 0 2 refl f (omega arith)
+      off (a_not f a) = absurd (none-some _ f)
+      off (a_minus f a) = absurd (none-some _ f)

@@ -16,7 +16,7 @@ use Rattle.grammar.proofs.Progress.{sane?, sane_of}
 use Rattle.grammar.proofs.Whole.{solid, derives}
 use Rattle.grammar.proofs.Total.{Some, some}
 use Rattle.cursor.specs.Entries.{input}
-use Rattle.cursor.specs.Read.{Attempt, READING, FAILED, reached, Result, matched, failed, exceeded, Reads, still, reads}
+use Rattle.cursor.specs.Read.{Attempt, READING, FAILED, DEEP, reached, Result, matched, failed, exceeded, Reads, still, reads}
 use Rattle.cursor.specs.Steps.{rewound, Agreed, agrees_not, agrees_else, agrees, shallow}
 use Rattle.cursor.specs.declared.Cursor.{Cursor}
 use Rattle.cursor.proofs.Attempts.{within_as, within_both, attempt_as, attempt_from, attempt_settled, attempt_and_not, attempt_and_then, attempt_or_else, attempt_both, attempt_step}
@@ -163,8 +163,8 @@ module _ {text w : List ℕ} where
   both_read {g} {h} {p} {p₀} {e} {q} {r} {T} {U} {W} j (reads z l) o k (reads z' l') a = reads z (λ s v. go (l s v) (rw k at (l' s (rw k (represents_with p.furthest 0 v)))) a)
     where
       go : {s : S} → Result g text w p s T e U → Result h text w (shallow p) s U q W → Agreed p.nest e q r → Result (both g h) text w p s T r W
-      go (failed z c f) y a = clash 1 0 z o (omega arith)
-      go (exceeded z c) y a = clash 2 0 z o (omega arith)
+      go (failed z c f) y a = clash FAILED READING z o (omega arith)
+      go (exceeded z c) y a = clash DEEP READING z o (omega arith)
       go (matched t z n v c f) (matched u z₁ n₁ v₁ c₁ f₁) (agrees_not j i) = absurd (j z₁)
       go (matched t z n v c f) (matched u z₁ n₁ v₁ c₁ f₁) (agrees_else j i m) =
           let m' = halted o m in
@@ -183,6 +183,6 @@ module _ {text w : List ℕ} where
       go (matched t z n v c f) (failed z₁ c₁ f₁) (agrees_not j i) =
           let i' = halted o i in
           failed (status_as i' z₁) (attempt_from refl (sym (ap reached i')) (attempt_both c c₁.derived)) (λ H. f₁ (kept c.derived (f H)))
-      go (matched t z n v c f) (failed z₁ c₁ f₁) (agrees_else j i m) = clash 1 0 z₁ j (omega arith)
-      go (matched t z n v c f) (failed z₁ c₁ f₁) (agrees j i m) = clash 1 0 z₁ j (omega arith)
+      go (matched t z n v c f) (failed z₁ c₁ f₁) (agrees_else j i m) = clash FAILED READING z₁ j (omega arith)
+      go (matched t z n v c f) (failed z₁ c₁ f₁) (agrees j i m) = clash FAILED READING z₁ j (omega arith)
       go (matched t z n v c f) (exceeded z₁ c₁) a = let y : c₁.nest ≡ 0 = flat j c₁.takes in absurd (omega (arith, c₁.above))

@@ -2,37 +2,39 @@
 use mathlib.Core.Path.{◌≡◌, refl, sym, ap, ◌∙◌}
 use mathlib.Core.Bool.{Bool, true, false, cond}
 use mathlib.Core.List.{List}
-use Prim.Native.Nat.{ℕ, zero, suc, pred, ◌+◌, ◌/◌, ◌<◌, ◌≤◌}
+use Prim.Native.Nat.{ℕ, suc, pred, ◌+◌, ◌-◌, ◌/◌, ◌<◌, ◌≤◌, min}
 use native.Mathlib.Omega.{arith}
-use native.Mathlib.Decide.{ℕ_discrete, dec_lt}
+use native.Mathlib.Decide.{dec_lt}
 use lib.Dec.{eqb}
 use lib.ListN.{length}
 use borrow.Author.Tests.{eq-eqb, ne_eqb}
 use Rattle.tables.specs.Tables.{Token, encode_node, token_at, stored}
-use Rattle.tables.specs.TokenKinds.{IDENT}
+use Rattle.tables.specs.TokenKinds.{IDENT, kind_of}
+use Rattle.tables.specs.declared.token_type.TokenType.{TokenType}
 use Rattle.tables.proofs.Laws.{number_none, tokens_at}
 use Rattle.grammar.specs.Derive.{Input, token, Act, leaf, Start, first_token, first_part, End, last_token, last_part, call_end, take, close, tick, alone, step, S, Out, got, none, next, marked, emit, starts, ends, closed, act, yields, stepped, Takes, here, type_name, spelling}
 use Rattle.grammar.specs.Kinds.{Named}
+use Rattle.grammar.specs.contracts.node_value.NamedType.{the_type}
+use Rattle.grammar.specs.declared.node_value.NamedType.{NamedType}
+use denote.Enum.Declared.{tag_of}
 use Rattle.grammar.specs.Grammar.{body, nests, tok, op, named_type}
 use Rattle.grammar.proofs.Unique.{unique}
 use Rattle.cursor.specs.Entries.{input, MAX16, MAX64}
-use Rattle.cursor.specs.Read.{Attempt, Exceeds, Holds, READING, FAILED, Upto, Represents, reached, Result, matched, failed, exceeded, Reads, still, reads, Puts, puts}
-use Rattle.cursor.specs.Steps.{Wanted, up, with_status, Halted, was_halted, halts, Advanced, not_reading, not_there, too_deep, advanced, with_mark, with_part, counted, with_unknown, Emitted, emitted, Closed, not_closed, closes}
+use Rattle.cursor.specs.Read.{Attempt, Exceeds, Holds, READING, FAILED, DEEP, Upto, Represents, reached, Result, matched, failed, exceeded, Reads, still, reads, Puts, puts}
+use Rattle.cursor.specs.Steps.{named_number, up, with_status, Halted, was_halted, halts, Advanced, not_reading, not_there, too_deep, advanced, with_mark, with_part, counted, with_unknown, Emitted, emitted, Closed, not_closed, closes}
 use Rattle.cursor.specs.declared.Cursor.{Cursor}
+use Rattle.cursor.specs.declared.Status.{Status}
 use Rattle.cursor.proofs.Attempts.{within_as, attempt_as, attempt_from, attempt_take, attempt_absent, attempt_step, exceeds_by, exceeds_take}
 use Rattle.cursor.proofs.Cursors.{upto_as, near, test, upto_up, seen_as, represents_past, represents_mark, represents_emit, represents_closed}
 use Rattle.cursor.proofs.Holding.{entry_is, holds_more}
-use Rattle.cursor.proofs.Laws.{clash, status_as, kept, idle}
+use Rattle.cursor.proofs.Laws.{clash, reading?, status_as, kept, idle}
 
-pub wanted : {A : Type 0} (k : ℕ) → (1 ≤ k → A) → Wanted k A
-wanted zero f = tt
-wanted (suc k) f = f (omega arith)
+-- no kind is 0
+pub above_none : (k : TokenType) → 1 ≤ kind_of k
+above_none TokenType.LiteralNumber = omega arith
+above_none k = omega arith
 
-pub unwrapped : {A : Type 0} (k : ℕ) → 1 ≤ k → Wanted k A → A
-unwrapped zero h a = absurd (omega arith)
-unwrapped (suc k) h a = a
-
-pub halted : {k : ℕ} {p r : Cursor} → p.status ≡ READING → Halted k p r → r ≡ with_status k p
+pub halted : {k : Status} {p r : Cursor} → p.status ≡ READING → Halted k p r → r ≡ with_status k p
 halted z (was_halted n e) = absurd (n z)
 halted z (halts h e) = e
 
@@ -77,33 +79,33 @@ record Acts (text w : List ℕ) (a : Act) (p : Cursor) (s : S) (T : List ℕ) (r
 
 module _ {text w : List ℕ} {k : ℕ} {p q : Cursor} where
   -- it is not there, or too deep
-  pub stopped : {a : Act} {T : List ℕ} → 1 ≤ k → Advanced w k p q → (q.status ≡ READING → ⊥) → Reads (step (take k a)) text w p T q T
+  pub stopped : {a : Act} {T : List ℕ} → Advanced w k p q → (q.status ≡ READING → ⊥) → Reads (step (take k a)) text w p T q T
   unfolding yields
-  stopped h (not_reading n e) z = still n (status_as e refl) (ap reached e) refl
-  stopped h (not_there y n e) z =
+  stopped (not_reading n e) z = still n (status_as e refl) (ap reached e) refl
+  stopped (not_there y n e) z =
       reads y (λ s v.
-      let miss : (token (input text w) s.at).kind ≡ k → ⊥ = λ i. n h (rw (next_token text w v) at i) in
+      let miss : (token (input text w) s.at).kind ≡ k → ⊥ = λ i. n (rw (next_token text w v) at i) in
       failed (status_as e refl) (attempt_from refl (sym (ap reached e)) (attempt_absent miss)) (λ H. H))
-  stopped h (too_deep y i l e) z = reads y (λ s v. exceeded e (exceeds_take (rw (next_token text w v) i) l))
-  stopped h (advanced y i l b e) z = absurd (z (status_as e y))
+  stopped (too_deep y i l e) z = reads y (λ s v. exceeded e (exceeds_take (rw (next_token text w v) i) l))
+  stopped (advanced y i l b e) z = absurd (z (status_as e y))
 
   -- it is taken
   taken : {a : Act} {r : Cursor} {T U : List ℕ} → Advanced w k p q → q.status ≡ READING → r.status ≡ q.status → r.nest ≡ q.nest → reached r ≡ reached q
       → ((s : S) → Represents q (next s) → Acts text w a p s T r U) → Reads (step (take k a)) text w p T r U
   unfolding yields
   taken (not_reading n e) z f g h l = absurd (n (status_as (sym e) z))
-  taken (not_there y n e) z f g h l = clash 1 0 (status_as e refl) z (omega arith)
-  taken (too_deep y i m e) z f g h l = clash 2 0 e z (omega arith)
+  taken (not_there y n e) z f g h l = clash FAILED READING (status_as e refl) z (omega arith)
+  taken (too_deep y i m e) z f g h l = clash DEEP READING e z (omega arith)
   taken (advanced y i m b e) z f g h l =
       reads y (λ s v.
       let o = l s (seen_as e (represents_past v)) in
       matched o.to (f ∙ z) (g ∙ nest_of e) o.represents (attempt_as (rw (next_token text w v, eq-eqb _ _ i) o.acted) (attempt_take (rw (next_token text w v) i) m (omega (arith, v.at)) (omega (arith, v.at, h, ap reached e)))) o.holds)
 
-  pub took : {T : List ℕ} → 1 ≤ k → Advanced w k p q → Reads (tok k) text w p T q T
-  took h y =
-      elim (ℕ_discrete q.status 0) [
+  pub took : {T : List ℕ} → Advanced w k p q → Reads (tok k) text w p T q T
+  took y =
+      elim (reading? q.status) [
         | yes z ↦ taken y z refl refl refl (λ s v. record { to = next s; acted = refl; represents = v; holds = λ H. H })
-        | no n ↦ stopped h y n
+        | no n ↦ stopped y n
       ]
 
   pub marks : {m : ℕ} {T : List ℕ} → Advanced w k p q → q.status ≡ READING → Reads (op k m) text w p T (with_mark m q) T
@@ -180,13 +182,19 @@ module _ {text w : List ℕ} {k : ℕ} {a b : Act} {p : Cursor} where
       go s v (matched t z n o c f) (was_halted m e) = absurd (m z)
       go s v (matched t z n o c f) (halts y e) = failed (status_as e refl) (attempt_from refl (sym (ap reached e)) (follows (λ _. none) refl (rw (next_token text w v) (d s)) c)) (λ H. kept c.derived (f H))
       go s v (failed z c f) (was_halted m e) = failed (status_as e z) (attempt_from refl (sym (ap reached e)) (follows (λ _. none) refl (rw (next_token text w v) (d s)) c)) f
-      go s v (failed z c f) (halts y e) = clash 1 0 z y (omega arith)
+      go s v (failed z c f) (halts y e) = clash FAILED READING z y (omega arith)
       go s v (exceeded z c) (was_halted m e) = exceeded (status_as e z) (exceeds_too c)
-      go s v (exceeded z c) (halts y e) = clash 2 0 z y (omega arith)
+      go s v (exceeded z c) (halts y e) = clash DEEP READING z y (omega arith)
+
+named_tag : (n : NamedType) → tag_of the_type n ≡ named_number n
+named_tag NamedType.Felt = refl
+named_tag NamedType.Bool = refl
+named_tag NamedType.U32 = refl
+named_tag NamedType.Custom = refl
 
 -- a name whose value is told by its spelling
-pub named : {text w : List ℕ} {v : ℕ} {p r : Cursor} {T U : List ℕ} → v ≡ type_name (spelling (input text w) (token_at w p.at)) → Puts (step (take IDENT (leaf Named v))) w p T r U → Reads named_type text w p T r U
-named {text} e (puts y) = same_act (λ s. s.unknown) (λ s. rw e) (y text)
+pub named : {text w : List ℕ} (n : NamedType) {p r : Cursor} {T U : List ℕ} → named_number n ≡ type_name (spelling (input text w) (token_at w p.at)) → Puts (step (take IDENT (leaf Named (tag_of the_type n)))) w p T r U → Reads named_type text w p T r U
+named {text} n e (puts y) = same_act (λ s. s.unknown) (λ s. rw (← e, ← named_tag n)) (y text)
 
 -- ---- no token
 
@@ -198,14 +206,16 @@ module _ (text w : List ℕ) {p : Cursor} {s : S} (v : Represents p s) where
   pub to_part : Upto MAX16 p.to (ends (input text w) last_part s)
   to_part = v.to
 
-  pub from_token : {n : ℕ} → n ≡ (token_at w p.first).start → Upto MAX16 n (starts (input text w) first_token s)
-  from_token e = upto_as (e ∙ rw v.first (ap (λ (t : Token). t.start) (sym (tokens_at w s.frame.first))))
+  pub from_token : {t : Token} → t ≡ token_at w p.first → Upto MAX16 t.start (starts (input text w) first_token s)
+  from_token e = upto_as (ap (λ (t : Token). t.start) e ∙ rw v.first (ap (λ (t : Token). t.start) (sym (tokens_at w s.frame.first))))
 
-  pub to_token : {n i : ℕ} → i ≡ pred p.at → n ≡ (token_at w i).end → Upto MAX16 n (ends (input text w) last_token s)
-  to_token e f = upto_as (f ∙ rw (e, v.at) (ap (λ (t : Token). t.end) (sym (tokens_at w (pred s.at)))))
+  pub to_token : {t : Token} {i : ℕ} → i ≡ p.at - 1 → t ≡ token_at w i → Upto MAX16 t.end (ends (input text w) last_token s)
+  to_token {i = i} e f =
+      let g : i ≡ pred s.at = omega (arith, v.at) in
+      upto_as (ap (λ (t : Token). t.end) f ∙ rw g (ap (λ (t : Token). t.end) (sym (tokens_at w (pred s.at)))))
 
-  pub to_callee : {n m : ℕ} → p.parts ≡ 1 → m ≡ up MAX16 p.to → n ≡ up MAX16 m → Upto MAX16 n (ends (input text w) call_end s)
-  to_callee z e f = rw (← test 1 (omega arith) v.parts, eq-eqb _ _ z) (record { upto = omega (arith, v.to.upto) })
+  pub to_callee : {n : ℕ} → p.parts ≡ 1 → n ≡ min (p.to + 2) MAX16 → Upto MAX16 n (ends (input text w) call_end s)
+  to_callee z e = rw (← test 1 (omega arith) v.parts, eq-eqb _ _ z) (record { upto = omega (arith, v.to.upto) })
 
   pub to_argument : (p.parts ≡ 1 → ⊥) → Upto MAX16 p.to (ends (input text w) call_end s)
   to_argument z = rw (← test 1 (omega arith) v.parts, ne_eqb _ _ z) v.to
@@ -230,7 +240,7 @@ module _ {text w : List ℕ} {p : Cursor} where
   pub is_alone : {T : List ℕ} → p.parts ≡ 1 → Reads (step alone) text w p T p T
   unfolding yields
   is_alone e =
-      elim (ℕ_discrete p.status 0) [
+      elim (reading? p.status) [
         | yes z ↦ reads z (λ s v. matched s z refl v (attempt_as (rw (← test 1 (omega arith) v.parts, eq-eqb _ _ e)) (attempt_step tt)) (λ H. H))
         | no n ↦ idle n
       ]

@@ -7,6 +7,7 @@ use Rattle.grammar.specs.Grammar.{body, nests, tok}
 use Rattle.cursor.specs.Entries.{input, MAX16, MAX64, entry_of}
 use Rattle.cursor.specs.declared.Cursor.{Cursor}
 use Rattle.cursor.specs.declared.Part.{Part}
+use Rattle.cursor.specs.declared.Status.{Status}
 use Rattle.cursor.specs.declared.StmtPart.{StmtPart}
 
 -- ---- attempts
@@ -44,14 +45,14 @@ pub record Holds (T : List ℕ) (ns : List Node) : Type 0 where
 -- ---- cursors
 
 -- a cursor's status: it is reading, what it read failed, or that was too deep
-abbrev pub READING : ℕ
-READING = 0
+abbrev pub READING : Status
+READING = Status.Reading
 
-abbrev pub FAILED : ℕ
-FAILED = 1
+abbrev pub FAILED : Status
+FAILED = Status.Failed
 
-abbrev pub DEEP : ℕ
-DEEP = 2
+abbrev pub DEEP : Status
+DEEP = Status.Deep
 
 -- the same number, or both at least l
 pub record Upto (l n m : ℕ) : Type 0 where

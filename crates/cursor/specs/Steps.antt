@@ -1,30 +1,36 @@
 -- What the steps of a cursor make of it: the contracts that the readers' steps are built on. Assumes nothing.
-use Rattle.std.specs.Prelude.{◌≡◌, cond, List, ℕ, zero, suc, ◌+◌, ◌/◌, ◌<◌, ◌≤◌, min, eqb, length}
+use Rattle.std.specs.Prelude.{◌≡◌, ◌==◌, Bool, ◌||◌, cond, List, ℕ, ◌+◌, ◌/◌, ◌<◌, ◌≤◌, min, eqb, length}
+use Rattle.std.specs.Prelude.{Option, Some, None}
 use Rattle.tables.specs.Tables.{encode_node, token_at, stored}
-use Rattle.tables.specs.TokenKinds.{NUMBER, IDENT, NOT, MINUS, LPAREN, LBRACE, LBRACK, DOT}
+use Rattle.tables.specs.TokenKinds.{NOT, MINUS, LPAREN, LBRACE, LBRACK, DOT}
 use Rattle.grammar.specs.Derive.{Token, unary, Act, take, step, S, got, next, emit, act}
 use Rattle.grammar.specs.Grammar.{body}
 use Rattle.cursor.specs.Entries.{input, MAX16, MAX64}
 use Rattle.cursor.specs.Read.{LIMIT, READING, FAILED, DEEP, reached, Reads, ending}
 use Rattle.cursor.specs.declared.Cursor.{Cursor}
 use Rattle.cursor.specs.declared.Part.{Part}
+use Rattle.cursor.specs.declared.Status.{Status}
+use Rattle.grammar.specs.declared.node_value.NamedType.{NamedType}
+use Rattle.grammar.specs.declared.node_value.UnaryOp.{UnaryOp}
 
--- a token's kind is not 0: of 0 nothing is promised
-abbrev pub Wanted : ℕ → Type 0 → Type 0
-Wanted zero A = Unit {0}
-Wanted (suc k) A = A
+-- what a Named's value says
+abbrev pub named_number : NamedType → ℕ
+named_number NamedType.Felt = 0
+named_number NamedType.Bool = 1
+named_number NamedType.U32 = 2
+named_number NamedType.Custom = 3
 
 -- one more, up to l
 abbrev pub up : ℕ → ℕ → ℕ
 up l n = min (n + 1) l
 
 -- another status
-abbrev pub with_status : ℕ → Cursor → Cursor
+abbrev pub with_status : Status → Cursor → Cursor
 with_status k p =
     record { at = p.at; count = p.count; furthest = p.furthest; nest = p.nest; status = k; first = p.first; parts = p.parts; mark = p.mark; from = p.from; to = p.to }
 
 -- that status, if it was reading
-pub data Halted (status : ℕ) (p r : Cursor) : Type 0 where
+pub data Halted (status : Status) (p r : Cursor) : Type 0 where
   was_halted : (p.status ≡ READING → ⊥) → r ≡ p → Halted status p r
   halts : p.status ≡ READING → r ≡ with_status status p → Halted status p r
 
@@ -45,7 +51,7 @@ past p =
 -- past a token of kind k: it is not there, it is too deep, or it is taken
 pub data Advanced (w : List ℕ) (k : ℕ) (p r : Cursor) : Type 0 where
   not_reading : (p.status ≡ READING → ⊥) → r ≡ p → Advanced w k p r
-  not_there : p.status ≡ READING → (1 ≤ k → (token_at w p.at).kind ≡ k → ⊥) → r ≡ with_status FAILED p → Advanced w k p r
+  not_there : p.status ≡ READING → ((token_at w p.at).kind ≡ k → ⊥) → r ≡ with_status FAILED p → Advanced w k p r
   too_deep : p.status ≡ READING → (token_at w p.at).kind ≡ k → LIMIT < p.nest → r.status ≡ DEEP → Advanced w k p r
   advanced : p.status ≡ READING → (token_at w p.at).kind ≡ k → p.nest ≤ LIMIT → p.at < length w / 16 → r ≡ past p → Advanced w k p r
 
@@ -116,18 +122,9 @@ pub data Agreed (n : ℕ) (e q r : Cursor) : Type 0 where
 
 -- ---- operands
 
--- a token that continues no name or numeral before it
-pub record Over (k : ℕ) : Type 0 where
-  pub no_call : k ≡ LPAREN → ⊥
-  pub no_field : k ≡ DOT → ⊥
-  pub no_index : k ≡ LBRACK → ⊥
-  pub no_struct : k ≡ LBRACE → ⊥
-
--- the next two tokens' kinds: a name alone, a numeral alone, or something else
-pub data Plain (k j r : ℕ) : Type 0 where
-  plain_name : r ≡ 1 → k ≡ IDENT → Over j → Plain k j r
-  plain_numeral : r ≡ 2 → k ≡ NUMBER → Over j → Plain k j r
-  not_plain : r ≡ 0 → Plain k j r
+-- a token's kind: it continues a name or a numeral before it
+abbrev pub continues : ℕ → Bool
+continues k = (k == LPAREN) || (k == DOT) || (k == LBRACK) || (k == LBRACE)
 
 -- ---- prefixes
 
@@ -141,17 +138,22 @@ abbrev pub signed_at : ℕ → ℕ → ℕ → Cursor → Cursor
 signed_at i e m p =
     record { at = e; count = p.count; furthest = p.furthest; nest = p.nest; status = p.status; first = i; parts = 0; mark = m; from = 0; to = 0 }
 
--- a kind of token that is a prefix: 0 it is not, else the prefix's number and 1
-pub data Prefix (k r : ℕ) : Type 0 where
-  no_prefix : r ≡ 0 → (k ≡ NOT → ⊥) → (k ≡ MINUS → ⊥) → Prefix k r
-  a_not : r ≡ 1 → k ≡ NOT → Prefix k r
-  a_minus : r ≡ 2 → k ≡ MINUS → Prefix k r
+-- the prefix that a kind of token is, if it is one
+pub data Prefix (k : ℕ) (r : Option UnaryOp) : Type 0 where
+  no_prefix : r ≡ None → (k ≡ NOT → ⊥) → (k ≡ MINUS → ⊥) → Prefix k r
+  a_not : r ≡ Some UnaryOp.Not → k ≡ NOT → Prefix k r
+  a_minus : r ≡ Some UnaryOp.Neg → k ≡ MINUS → Prefix k r
+
+-- what a Unary's value says
+abbrev pub unary_number : UnaryOp → ℕ
+unary_number UnaryOp.Not = 0
+unary_number UnaryOp.Neg = 1
 
 -- the tokens from a to b are prefixes, and the next is not
 pub record Prefixes (w : List ℕ) (a b : ℕ) : Type 0 where
   pub up : a ≤ b
-  pub each : (i : ℕ) → a ≤ i → i < b → (r : ℕ) → Prefix (token_at w i).kind r → r ≡ 0 → ⊥
-  pub over : Prefix (token_at w b).kind 0
+  pub each : (i : ℕ) → a ≤ i → i < b → Prefix (token_at w i).kind None → ⊥
+  pub over : Prefix (token_at w b).kind None
 
 -- what was read past the prefixes from p on is made the operand of each, the last first
 pub record Unwound (w : List ℕ) (p : Cursor) (e : ℕ) (q : Cursor) (T : List ℕ) (r : Cursor) (U : List ℕ) : Type 0 where

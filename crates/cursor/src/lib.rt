@@ -1,25 +1,29 @@
 // Where a reader stands, and the steps that every reader is made of.
 #![tactic(auto)]
 
-ghost use Rattle.std.specs.Prelude.{◌≡◌, cond, eqb, take as first_of, drop, ◌+◌, ◌-◌, pred, min};
+ghost use Rattle.std.specs.Prelude.{◌≡◌, ◌==◌, ◌&&◌, take as first_of, drop, ◌+◌, ◌-◌, min, nat_le};
 ghost use Rattle.tables.specs.Tables.{token_at};
+ghost use Rattle.tables.specs.TokenKinds.{kind_of as token_kind};
 ghost use Rattle.grammar.specs.Derive.{step, take, leaf, index, literal, count, close, tick, alone, literal_kind, type_name, spelling, first_token, first_part, last_token, last_part, call_end};
-ghost use Rattle.grammar.specs.Kinds.{Call};
+ghost use Rattle.grammar.specs.Kinds.{Call, kind_of as node_kind};
 ghost use Rattle.grammar.specs.Grammar.{tok, op, opt, name, numeral, whole, operands, spanless};
-ghost use Rattle.cursor.specs.Entries.{input, MAX16, MAX64};
+ghost use Rattle.cursor.specs.Entries.{input};
 ghost use Rattle.cursor.specs.Read.{Puts, Grown, Step, Free, reached, begun, ending, ending_with};
-ghost use Rattle.cursor.specs.Steps.{Wanted, Halted, rewound, Advanced, Emitted, Closed, Agreed, Restarted, Left, with_part, fresh_at, signed_at, shallow, joining, up};
+ghost use Rattle.cursor.specs.Steps.{named_number, Halted, rewound, Advanced, Emitted, Closed, Agreed, Restarted, Left, with_part, fresh_at, signed_at, shallow, joining};
 
-use grammar::node_kind;
-use node::put_node;
+use grammar::node_kind::NodeKind;
+use grammar::node_value::NamedType;
 use patterns::is_word;
-use tables::token_type::{IDENTIFIER, LITERAL_NUMBER};
+use tables::token_type::TokenType;
+use tables::{Entry, Node, Token};
 
-pub const READING: u8 = 0;
-
-pub const FAILED: u8 = 1;
-
-pub const DEEP: u8 = 2;
+// What became of a reading so far.
+#[derive(Clone, Copy, PartialEq, Eq)]
+pub enum Status {
+    Reading,
+    Failed,
+    Deep,
+}
 
 // The deepest nest at which a token may be taken.
 const LIMIT: u8 = 64;
@@ -36,9 +40,9 @@ pub struct Cursor {
     pub parts: u16,
     pub from: u16,
     pub to: u16,
-    // How deep, and READING, FAILED or DEEP.
+    // How deep.
     pub nest: u8,
-    pub status: u8,
+    pub status: Status,
     // How far attempts came that were dropped: the token after the last that they took.
     pub furthest: usize,
 }
@@ -50,7 +54,7 @@ pub struct Part {
     pub at: usize,
     pub count: usize,
     pub from: u16,
-    pub status: u8,
+    pub status: Status,
     pub to: u16,
     pub furthest: usize,
 }
@@ -62,26 +66,56 @@ pub struct StmtPart {
     pub tried: bool,
 }
 
-impl Cursor {
-    // The kind of the next token, 0 past the last.
-    pub fn peek(self, tokens: &[u8]) -> u8
-        ensures { result ≡ (token_at tokens.now self.at).kind }
+// A token's kind as its entry has it: a byte, which past the last token is none of them.
+#[derive(Clone, Copy)]
+pub struct Kind {
+    byte: u8,
+}
+
+impl Kind {
+    // The kind of a token.
+    pub fn of(tokens: &[u8], i: usize) -> Kind
+        ensures { result.byte ≡ (token_at tokens.now i).kind }
     {
-        token::kind(tokens, self.at)
+        Kind {
+            byte: Token::at(tokens, i).kind,
+        }
     }
 
-    // The kind of the token after the next, 0 past the last.
-    pub fn second(self, tokens: &[u8]) -> u8
-        ensures { result ≡ (token_at tokens.now (self.at + 1)).kind }
+    pub fn is(self, kind: TokenType) -> bool
+        ensures { result ≡ (self.byte == token_kind kind) }
     {
-        token::kind(tokens, next(self.at))
+        self.byte == kind as u8
+    }
+
+    // One of those from the first to the last.
+    pub fn is_among(self, first: TokenType, last: TokenType) -> bool
+        ensures { result ≡ (nat_le (token_kind first) self.byte && nat_le self.byte (token_kind last)) }
+    {
+        self.byte >= first as u8 && self.byte <= last as u8
+    }
+}
+
+impl Cursor {
+    // The kind of the next token.
+    pub fn peek(self, tokens: &[u8]) -> Kind
+        ensures { result.byte ≡ (token_at tokens.now self.at).kind }
+    {
+        Kind::of(tokens, self.at)
+    }
+
+    // The kind of the token after the next.
+    pub fn second(self, tokens: &[u8]) -> Kind
+        ensures { result.byte ≡ (token_at tokens.now (self.at + 1)).kind }
+    {
+        Kind::of(tokens, self.at.saturating_add(1))
     }
 
     // Another status, for a cursor that was reading.
-    fn halt(mut self, status: u8) -> Cursor
+    fn halt(mut self, status: Status) -> Cursor
         ensures { Halted status self result }
     {
-        if self.status != READING {
+        if self.status != Status::Reading {
             return self;
         }
         self.status = status;
@@ -108,49 +142,49 @@ impl Cursor {
     }
 
     // Past a token of this kind, if it is there and not too deep.
-    fn advance(mut self, tokens: &[u8], kind: u8) -> Cursor
-        ensures { Advanced tokens.now kind self result }
+    fn advance(mut self, tokens: &[u8], kind: TokenType) -> Cursor
+        ensures { Advanced tokens.now (token_kind kind) self result }
     {
-        if self.status != READING {
+        if self.status != Status::Reading {
             return self;
         }
-        if self.at >= token::room(tokens) {
-            return self.halt(FAILED);
+        if self.at >= Token::room(tokens) {
+            return self.halt(Status::Failed);
         }
-        if token::kind(tokens, self.at) != kind {
-            return self.halt(FAILED);
+        if !Kind::of(tokens, self.at).is(kind) {
+            return self.halt(Status::Failed);
         }
         if self.nest > LIMIT {
-            return self.halt(DEEP);
+            return self.halt(Status::Deep);
         }
-        self.at = self.at + 1;
+        self.at += 1;
         self
     }
 
     // Takes a token of this kind.
-    pub fn take(self, tokens: &[u8], kind: u8) -> Cursor
-        ensures { Wanted kind (Step (tok kind) tokens.now self result) }
+    pub fn take(self, tokens: &[u8], kind: TokenType) -> Cursor
+        ensures { Step (tok (token_kind kind)) tokens.now self result }
     {
         self.advance(tokens, kind)
     }
 
     // Takes a token of this kind if it is there.
-    pub fn skip(self, tokens: &[u8], kind: u8) -> Cursor
-        ensures { Wanted kind (Step (opt (tok kind)) tokens.now self result) }
+    pub fn skip(self, tokens: &[u8], kind: TokenType) -> Cursor
+        ensures { Step (opt (tok (token_kind kind))) tokens.now self result }
     {
         let p = self.advance(tokens, kind);
-        if p.status == FAILED {
+        if p.status == Status::Failed {
             return self.rewind(p);
         }
         p
     }
 
     // Takes a token of this kind, and sets the mark.
-    pub fn mark(self, tokens: &[u8], kind: u8, m: u64) -> Cursor
-        ensures { Wanted kind (Step (op kind m) tokens.now self result) }
+    pub fn mark(self, tokens: &[u8], kind: TokenType, m: u64) -> Cursor
+        ensures { Step (op (token_kind kind) m) tokens.now self result }
     {
         let mut p = self.advance(tokens, kind);
-        if p.status != READING {
+        if p.status != Status::Reading {
             return p;
         }
         p.mark = m;
@@ -161,9 +195,10 @@ impl Cursor {
     pub fn index(self, tokens: &[u8]) -> Cursor
         ensures { Step (numeral index) tokens.now self result }
     {
-        let p = self.mark(tokens, LITERAL_NUMBER, token::value(tokens, self.at));
-        if token::suffix(tokens, self.at) != 0 {
-            return p.halt(FAILED);
+        let token = Token::at(tokens, self.at);
+        let p = self.mark(tokens, TokenType::LiteralNumber, token.value);
+        if token.suffix != 0 {
+            return p.halt(Status::Failed);
         }
         p
     }
@@ -172,8 +207,10 @@ impl Cursor {
     fn part(mut self, start: u16, end: u16) -> Cursor
         ensures { result ≡ with_part start end self }
     {
-        self.from = choose(self.parts, start, self.from);
-        self.parts = next16(self.parts);
+        if self.parts == 0 {
+            self.from = start;
+        }
+        self.parts = self.parts.saturating_add(1);
         self.to = end;
         self
     }
@@ -183,27 +220,41 @@ impl Cursor {
         self,
         tokens: &[u8],
         nodes: &mut [u8],
-        kind: u8,
-        node: u8,
+        kind: TokenType,
+        node: NodeKind,
         base: u8,
         value: u64,
     ) -> Cursor
-        ensures { Wanted kind (Emitted kind node base value tokens.now self nodes.old result nodes.new) }
+        ensures { Emitted (token_kind kind) (node_kind node) base value tokens.now self nodes.old result nodes.new }
     {
         let mut p = self.advance(tokens, kind);
-        if p.status != READING {
+        if p.status != Status::Reading {
             return p;
         }
-        let start = token::start(tokens, self.at);
-        let end = token::end(tokens, self.at);
-        put_node(nodes, p.count, node, base, start, end, 0, value);
-        p.count = next(p.count);
-        p.part(start, end)
+        let token = Token::at(tokens, self.at);
+        let entry = Node {
+            kind: node as u8,
+            base,
+            start: token.start,
+            end: token.end,
+            children: 0,
+            value,
+        };
+        entry.put(nodes, p.count);
+        p.count = p.count.saturating_add(1);
+        p.part(token.start, token.end)
     }
 
     // The same of one that is no numeral.
-    pub fn leaf(self, tokens: &[u8], nodes: &mut [u8], kind: u8, node: u8, value: u64) -> Cursor
-        ensures { Wanted kind (Puts (step (take kind (leaf node value))) tokens.now self nodes.old result nodes.new) }
+    pub fn leaf(
+        self,
+        tokens: &[u8],
+        nodes: &mut [u8],
+        kind: TokenType,
+        node: NodeKind,
+        value: u64,
+    ) -> Cursor
+        ensures { Puts (step (take (token_kind kind) (leaf (node_kind node) value))) tokens.now self nodes.old result nodes.new }
     {
         self.emit(tokens, nodes, kind, node, 0, value)
     }
@@ -212,21 +263,21 @@ impl Cursor {
     pub fn spanned_ident(self, tokens: &[u8], nodes: &mut [u8]) -> Cursor
         ensures { Puts name tokens.now self nodes.old result nodes.new }
     {
-        self.leaf(tokens, nodes, IDENTIFIER, node_kind::NAME, 0)
+        self.leaf(tokens, nodes, TokenType::Identifier, NodeKind::Name, 0)
     }
 
     // Takes a numeral, and emits a literal by its suffix.
     pub fn literal(self, tokens: &[u8], nodes: &mut [u8]) -> Cursor
         ensures { Puts (numeral literal) tokens.now self nodes.old result nodes.new }
     {
-        let node = literal_kind(token::suffix(tokens, self.at));
+        let token = Token::at(tokens, self.at);
         self.emit(
             tokens,
             nodes,
-            LITERAL_NUMBER,
-            node,
-            token::base(tokens, self.at),
-            token::value(tokens, self.at),
+            TokenType::LiteralNumber,
+            literal_kind(token.suffix),
+            token.base,
+            token.value,
         )
     }
 
@@ -234,16 +285,19 @@ impl Cursor {
     pub fn count(self, tokens: &[u8], nodes: &mut [u8]) -> Cursor
         ensures { Puts (numeral count) tokens.now self nodes.old result nodes.new }
     {
-        if token::suffix(tokens, self.at) != 0 {
-            return self.take(tokens, LITERAL_NUMBER).halt(FAILED);
+        let token = Token::at(tokens, self.at);
+        if token.suffix != 0 {
+            return self
+                .take(tokens, TokenType::LiteralNumber)
+                .halt(Status::Failed);
         }
         self.emit(
             tokens,
             nodes,
-            LITERAL_NUMBER,
-            node_kind::COUNT,
-            token::base(tokens, self.at),
-            token::value(tokens, self.at),
+            TokenType::LiteralNumber,
+            NodeKind::Count,
+            token.base,
+            token.value,
         )
     }
 
@@ -251,10 +305,10 @@ impl Cursor {
     pub fn tick(mut self) -> Cursor
         ensures { Free (step tick) self result }
     {
-        if self.status != READING {
+        if self.status != Status::Reading {
             return self;
         }
-        self.mark = next64(self.mark);
+        self.mark = self.mark.saturating_add(1);
         self
     }
 
@@ -265,20 +319,26 @@ impl Cursor {
         if self.parts == 1 {
             return self;
         }
-        self.halt(FAILED)
+        self.halt(Status::Failed)
     }
 
     // All parts gathered become the children of a node with this span.
-    fn close(mut self, nodes: &mut [u8], kind: u8, start: u16, end: u16) -> Cursor
-        ensures { Closed kind start end self nodes.old result nodes.new }
+    fn close(mut self, nodes: &mut [u8], kind: NodeKind, start: u16, end: u16) -> Cursor
+        ensures { Closed (node_kind kind) start end self nodes.old result nodes.new }
     {
-        if self.status != READING {
+        if self.status != Status::Reading {
             return self;
         }
-        put_node(
-            nodes, self.count, kind, 0, start, end, self.parts, self.mark,
-        );
-        self.count = next(self.count);
+        let node = Node {
+            kind: kind as u8,
+            base: 0,
+            start,
+            end,
+            children: self.parts,
+            value: self.mark,
+        };
+        node.put(nodes, self.count);
+        self.count = self.count.saturating_add(1);
         self.parts = 1;
         self.mark = 0;
         self.from = start;
@@ -287,35 +347,35 @@ impl Cursor {
     }
 
     // A node over all its tokens.
-    pub fn whole(self, tokens: &[u8], nodes: &mut [u8], kind: u8) -> Cursor
-        ensures { Puts (whole kind) tokens.now self nodes.old result nodes.new }
+    pub fn whole(self, tokens: &[u8], nodes: &mut [u8], kind: NodeKind) -> Cursor
+        ensures { Puts (whole (node_kind kind)) tokens.now self nodes.old result nodes.new }
     {
-        let start = token::start(tokens, self.first);
-        let end = token::end(tokens, before(self.at));
-        self.close(nodes, kind, start, end)
+        let first = Token::at(tokens, self.first);
+        let last = Token::at(tokens, self.at.saturating_sub(1));
+        self.close(nodes, kind, first.start, last.end)
     }
 
     // A node from its first operand to its last.
-    pub fn operands(self, nodes: &mut [u8], kind: u8) -> Cursor
-        ensures { Grown (operands kind) self nodes.old result nodes.new }
+    pub fn operands(self, nodes: &mut [u8], kind: NodeKind) -> Cursor
+        ensures { Grown (operands (node_kind kind)) self nodes.old result nodes.new }
     {
         self.close(nodes, kind, self.from, self.to)
     }
 
     // A node from its operand to the last token.
-    pub fn suffixed(self, tokens: &[u8], nodes: &mut [u8], kind: u8) -> Cursor
-        ensures { Puts (step (close kind first_part last_token)) tokens.now self nodes.old result nodes.new }
+    pub fn suffixed(self, tokens: &[u8], nodes: &mut [u8], kind: NodeKind) -> Cursor
+        ensures { Puts (step (close (node_kind kind) first_part last_token)) tokens.now self nodes.old result nodes.new }
     {
-        let end = token::end(tokens, before(self.at));
-        self.close(nodes, kind, self.from, end)
+        let last = Token::at(tokens, self.at.saturating_sub(1));
+        self.close(nodes, kind, self.from, last.end)
     }
 
     // A node from its first token to its operand.
-    pub fn prefixed(self, tokens: &[u8], nodes: &mut [u8], kind: u8) -> Cursor
-        ensures { Puts (step (close kind first_token last_part)) tokens.now self nodes.old result nodes.new }
+    pub fn prefixed(self, tokens: &[u8], nodes: &mut [u8], kind: NodeKind) -> Cursor
+        ensures { Puts (step (close (node_kind kind) first_token last_part)) tokens.now self nodes.old result nodes.new }
     {
-        let start = token::start(tokens, self.first);
-        self.close(nodes, kind, start, self.to)
+        let first = Token::at(tokens, self.first);
+        self.close(nodes, kind, first.start, self.to)
     }
 
     // A call: without arguments it ends 2 past the callee.
@@ -323,33 +383,33 @@ impl Cursor {
         ensures { Grown (step (close Call first_part call_end)) self nodes.old result nodes.new }
     {
         if self.parts == 1 {
-            return self.close(nodes, node_kind::CALL, self.from, next16(next16(self.to)));
+            return self.close(nodes, NodeKind::Call, self.from, self.to.saturating_add(2));
         }
-        self.close(nodes, node_kind::CALL, self.from, self.to)
+        self.close(nodes, NodeKind::Call, self.from, self.to)
     }
 
     // A node with the span 0..0.
-    pub fn spanless(self, nodes: &mut [u8], kind: u8) -> Cursor
-        ensures { Grown (spanless kind) self nodes.old result nodes.new }
+    pub fn spanless(self, nodes: &mut [u8], kind: NodeKind) -> Cursor
+        ensures { Grown (spanless (node_kind kind)) self nodes.old result nodes.new }
     {
         self.close(nodes, kind, 0, 0)
     }
 
-    // At the first token of a rule.
+    // At the first token of a rule. These are four numbers and no struct: a struct goes through memory, which is slower.
     pub fn begin(at: usize, count: usize, nest: u8, furthest: usize) -> Cursor
         ensures { result ≡ begun at count nest furthest }
     {
         Cursor {
-            at: at,
-            count: count,
-            furthest: furthest,
+            at,
+            count,
+            furthest,
             first: at,
             mark: 0,
             parts: 0,
             from: 0,
             to: 0,
-            nest: nest,
-            status: READING,
+            nest,
+            status: Status::Reading,
         }
     }
 
@@ -371,10 +431,9 @@ impl Cursor {
     pub fn ended_with(self, tried: bool) -> StmtPart
         ensures { result ≡ ending_with tried self }
     {
-        let part = self.ended();
         StmtPart {
-            part: part,
-            tried: tried,
+            part: self.ended(),
+            tried,
         }
     }
 
@@ -414,7 +473,7 @@ impl Cursor {
     pub fn leave(self, outer: Cursor) -> Cursor
         ensures { Left outer self result }
     {
-        if self.status != READING {
+        if self.status != Status::Reading {
             return self;
         }
         let mut p = outer.part(self.from, self.to);
@@ -437,11 +496,11 @@ impl Cursor {
     pub fn agree(mut self, other: Cursor, nest: u8) -> Cursor
         ensures { Agreed nest other self result }
     {
-        if self.status != READING {
+        if self.status != Status::Reading {
             return other.halt(self.status);
         }
         if other.at != self.at {
-            return other.halt(FAILED);
+            return other.halt(Status::Failed);
         }
         self.nest = nest;
         self.furthest = other.furthest;
@@ -456,7 +515,7 @@ impl Cursor {
             return self.fresh(end);
         }
         if self.nest > LIMIT {
-            return self.halt(DEEP);
+            return self.halt(Status::Deep);
         }
         self.fresh(end)
     }
@@ -472,97 +531,64 @@ impl Cursor {
     }
 }
 
-// One more, up to the largest number.
-fn next16(n: u16) -> u16
-    ensures { result ≡ up MAX16 n }
-{
-    if n < 65535 { n + 1 } else { n }
-}
-
-fn next64(n: u64) -> u64
-    ensures { result ≡ up MAX64 n }
-{
-    if n < 18446744073709551615 { n + 1 } else { n }
-}
-
-fn next(n: usize) -> usize
-    ensures { result ≡ up MAX64 n }
-{
-    if n < 18446744073709551615 { n + 1 } else { n }
-}
-
-// One less, down to 0.
-fn before(n: usize) -> usize
-    ensures { result ≡ pred n }
-{
-    if n == 0 { 0 } else { n - 1 }
-}
-
-// The first of two if n is 0.
-fn choose(n: u16, a: u16, b: u16) -> u16
-    ensures { result ≡ cond (eqb n 0) a b }
-{
-    if n == 0 { a } else { b }
-}
-
 // One deeper; past the limit nests are not told apart.
 pub fn deeper(nest: u8) -> u8
     ensures { result ≡ min (nest + 1) 65 }
 {
-    if nest < LIMIT { nest + 1 } else { LIMIT + 1 }
+    nest.min(LIMIT) + 1
 }
 
 // A literal's kind, by its suffix.
-fn literal_kind(suffix: u8) -> u8
-    ensures { result ≡ literal_kind suffix }
+fn literal_kind(suffix: u8) -> NodeKind
+    ensures { node_kind result ≡ literal_kind suffix }
 {
-    if suffix == 1 {
-        return node_kind::LITERAL_FELT;
-    }
-    if suffix == 2 {
-        node_kind::LITERAL_U32
-    } else {
-        node_kind::LITERAL
+    match suffix {
+        1 => NodeKind::LiteralFelt,
+        2 => NodeKind::LiteralU32,
+        _ => NodeKind::Literal,
     }
 }
 
-// The lesser of two.
-fn lesser(a: usize, b: usize) -> usize
-    ensures { result ≡ min a b }
-{
-    if a < b { a } else { b }
+// A text, and the table of its tokens.
+#[derive(Clone, Copy)]
+pub struct Source<'a> {
+    pub text: &'a [u8],
+    pub tokens: &'a [u8],
 }
 
-// A Named's value, by the spelling of a token.
-pub fn type_name(text: &[u8], tokens: &[u8], at: usize) -> u64
-    ensures { result ≡ type_name (spelling (input text.now tokens.now) (token_at tokens.now at)) }
-{
-    named_type(text, token::start(tokens, at), token::end(tokens, at))
+impl<'a> Source<'a> {
+    // A Named's value, by the spelling of a token.
+    pub fn type_name(&self, at: usize) -> NamedType
+        ensures { named_number result ≡ type_name (spelling (input self.now.text.now self.now.tokens.now) (token_at self.now.tokens.now at)) }
+    {
+        let token = Token::at(self.tokens, at);
+        named_type(self.text, token.start, token.end)
+    }
 }
 
-// The same by where it starts and ends.
-fn named_type(text: &[u8], start: u16, end: u16) -> u64
-    ensures { result ≡ type_name (first_of (end - start) (drop start text.now)) }
+// A Named's value, by where its spelling starts and ends.
+fn named_type(text: &[u8], start: u16, end: u16) -> NamedType
+    ensures { named_number result ≡ type_name (first_of (end - start) (drop start text.now)) }
 {
-    let from = lesser(start as usize, text.len());
-    let to = lesser(end as usize, text.len());
+    let from = (start as usize).min(text.len());
+    let to = (end as usize).min(text.len());
     if to < from {
-        return 3;
+        return NamedType::Custom;
     }
     name_kind(&text[from..to])
 }
 
-fn name_kind(name: &[u8]) -> u64
-    ensures { result ≡ type_name name.now }
+fn name_kind(name: &[u8]) -> NamedType
+    ensures { named_number result ≡ type_name name.now }
 {
     if is_word(name, b"felt") {
-        return 0;
+        return NamedType::Felt;
     }
     if is_word(name, b"bool") {
-        return 1;
+        return NamedType::Bool;
     }
     if is_word(name, b"u32") {
-        return 2;
+        return NamedType::U32;
     }
-    3
+    NamedType::Custom
 }

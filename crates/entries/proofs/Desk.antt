@@ -2,19 +2,14 @@
 use mathlib.Core.Path.{◌≡◌, sym, ap, ◌∙◌}
 use mathlib.Core.List.{List}
 use Prim.Native.Nat.{ℕ, ◌/◌}
-use Rattle.tables.specs.Tables.{Token, tabulate}
-use Rattle.cairo_m.specs.Reading.{ReadingIs, outcome_of, Counts, counts_of}
+use Rattle.tables.specs.Tables.{Token, Diagnostic, diagnostic_at, tabulate}
+use Rattle.cairo_m.specs.Reading.{Reading, ReadingIs, outcome_of, counts_of}
+use Rattle.cairo_m.specs.declared.Counts.{Counts}
 use Rattle.cairo_m.specs.Bases.{BasesAre}
-use Rattle.cairo_m.specs.declared.Reading.{Reading}
 use Rattle.cairo_m.proofs.Determined.{reading_one}
 use Rattle.cairo_m.proofs.Demand3.{Premises, Demand, demand_3}
 use Rattle.cairo_m.proofs.Bases.{bases_are}
-use Rattle.entries.specs.Numbers.{NumbersAre, record_at, EntryIs}
-use Rattle.entries.specs.declared.records.Diagnostic.{Diagnostic as Record}
-
-pub numbers : {text : List ℕ} {k m n : ℕ} {a b c : List ℕ} {r : Reading} → ReadingIs text k m n a b c r → {o t u d : ℕ} → o ≡ outcome_of r → t ≡ (counts_of r).tokens → u ≡ (counts_of r).nodes → d ≡ (counts_of r).diagnostics
-    → NumbersAre text k m n a b c o t u d
-numbers {r = r} v o t u d = record { r = r; reading = v; outcome_is = o; counts_are = rw (t, u, d) }
+use Rattle.entries.specs.Numbers.{NumbersAre, EntryIs}
 
 -- ---- two answers agree
 abbrev counts : ℕ → ℕ → ℕ → Counts
@@ -27,18 +22,18 @@ module _ {text : List ℕ} {k m n : ℕ} {a b c a' b' c' : List ℕ} where
       let e = reading_one p.reading q.reading in
       (p.outcome_is ∙ ap outcome_of e.0 ∙ sym q.outcome_is, p.counts_are ∙ ap counts_of e.0 ∙ sym q.counts_are, e.1, e.2, e.3)
 
-  pub entry_one : {l o t u d o' t' u' d' : ℕ} {e e' : List Record} → EntryIs text k m n l a b c e o t u d → EntryIs text k m n l a' b' c' e' o' t' u' d'
+  pub entry_one : {l o t u d o' t' u' d' : ℕ} {e e' : List Diagnostic} → EntryIs text k m n l a b c e o t u d → EntryIs text k m n l a' b' c' e' o' t' u' d'
       → (o ≡ o') × (counts t u d ≡ counts t' u' d') × (a ≡ a') × (b ≡ b') × (c ≡ c') × (e ≡ e')
   entry_one {l} p q =
       let h = numbers_one p.numbers q.numbers in
-      (h.0, h.1, h.2, h.3, h.4, p.list ∙ ap (λ (x : List ℕ). tabulate l (record_at x)) h.4 ∙ sym q.list)
+      (h.0, h.1, h.2, h.3, h.4, p.list ∙ ap (λ (x : List ℕ). tabulate l (diagnostic_at x)) h.4 ∙ sym q.list)
 
 -- ---- the third demand, of what the C entry answers
-pub at_the_desk : {text : List ℕ} {k m n l : ℕ} {a b c : List ℕ} {e : List Record} {o t u d : ℕ} {ts : List Token} → EntryIs text k m n l a b c e o t u d → Premises text (k / 16) (m / 16) ts → Demand text ts b o u
+pub at_the_desk : {text : List ℕ} {k m n l : ℕ} {a b c : List ℕ} {e : List Diagnostic} {o t u d : ℕ} {ts : List Token} → EntryIs text k m n l a b c e o t u d → Premises text (k / 16) (m / 16) ts → Demand text ts b o u
 at_the_desk {text} {b = b} {ts = ts} v p =
     let w = v.numbers in
     rw (w.outcome_is, ap (λ (x : Counts). x.nodes) w.counts_are) (demand_3 w.reading p)
 
 -- ---- the bases in what it leaves
-pub entry_bases : {text : List ℕ} {k m n l : ℕ} {a b c : List ℕ} {e : List Record} {o t u d : ℕ} → EntryIs text k m n l a b c e o t u d → BasesAre text a b
+pub entry_bases : {text : List ℕ} {k m n l : ℕ} {a b c : List ℕ} {e : List Diagnostic} {o t u d : ℕ} → EntryIs text k m n l a b c e o t u d → BasesAre text a b
 entry_bases v = bases_are v.numbers.reading

@@ -2,14 +2,12 @@
 use mathlib.Core.Path.{◌≡◌, refl, sym, ap, subst, ◌∙◌}
 use mathlib.Core.List.{List}
 use Prim.Native.Nat.{ℕ}
+use Rattle.std.specs.Prelude.{Result}
 use Rattle.lexer.specs.Answers.{AnswerIs}
-use Rattle.lexer.specs.declared.entry.Answer.{Answer}
+use Rattle.lexer.specs.declared.entry.LexedAlone.{LexedAlone}
+use Rattle.lexer.specs.declared.entry.LexError.{LexError}
 use Rattle.lexer.proofs.Determined.{answer_one}
 use Rattle.entries.specs.Tokens.{outcome_of, token_count_of, diagnostic_count_of, LexIs}
-
-module _ {text : List ℕ} {n m : ℕ} {a b : List ℕ} {r : Answer} (w : AnswerIs text n m a b r) (s : Answer) (e : r ≡ s) where
-  pub numbers : LexIs text n m a b (outcome_of s) (token_count_of s) (diagnostic_count_of s)
-  numbers = record { r = s; answered = subst (AnswerIs text n m a b) e w; outcome_is = refl; tokens_are = refl; diagnostics_are = refl }
 
 module _ {text : List ℕ} {n m : ℕ} {a b a' b' : List ℕ} where
   pub lex_one : {o t d o' t' d' : ℕ} → LexIs text n m a b o t d → LexIs text n m a' b' o' t' d' → (o ≡ o') × (t ≡ t') × (d ≡ d') × (a ≡ a') × (b ≡ b')

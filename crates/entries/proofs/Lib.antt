@@ -1,5 +1,4 @@
 pub mod Front
-pub mod Spellings
 pub mod NumeralAnswers
 pub mod LexAnswers
 pub mod Desk

@@ -1,9 +1,7 @@
 -- The numbers of a reading's answer, and the desk's entry. Assumes nothing.
 use Rattle.std.specs.Prelude.{◌≡◌, List, ℕ}
-use Rattle.tables.specs.Tables.{diagnostic_at, tabulate}
-use Rattle.cairo_m.specs.Reading.{ReadingIs, outcome_of, counts_of}
-use Rattle.cairo_m.specs.declared.Reading.{Reading}
-use Rattle.entries.specs.declared.records.Diagnostic.{Diagnostic}
+use Rattle.tables.specs.Tables.{Diagnostic, diagnostic_at, tabulate}
+use Rattle.cairo_m.specs.Reading.{Reading, ReadingIs, outcome_of, counts_of}
 
 -- the numbers of the answer r
 pub record NumbersAre (text : List ℕ) (k m n : ℕ) (a b c : List ℕ) (outcome tokens nodes diagnostics : ℕ) : Type 0 where
@@ -13,11 +11,7 @@ pub record NumbersAre (text : List ℕ) (k m n : ℕ) (a b c : List ℕ) (outcom
   pub counts_are : record { tokens = tokens; nodes = nodes; diagnostics = diagnostics } ≡ counts_of r
 
 -- ---- the desk's entry: a list of l records besides
--- entry i of the diagnostic table c as a record, all 0 where the table has no entry i
-abbrev pub record_at : List ℕ → ℕ → Diagnostic
-record_at c i = record { start = (diagnostic_at c i).start; end = (diagnostic_at c i).end; reason = (diagnostic_at c i).reason }
-
--- and e in the list
+-- the entries of the diagnostic table c as records, all 0 where the table has no entry i
 pub record EntryIs (text : List ℕ) (k m n l : ℕ) (a b c : List ℕ) (e : List Diagnostic) (outcome tokens nodes diagnostics : ℕ) : Type 0 where
   pub numbers : NumbersAre text k m n a b c outcome tokens nodes diagnostics
-  pub list : e ≡ tabulate l (record_at c)
+  pub list : e ≡ tabulate l (diagnostic_at c)

@@ -2,36 +2,26 @@
 ghost use Rattle.std.specs.Prelude.{◌≡◌, length};
 ghost use Rattle.tables.specs.Tables.{nodes_of, diagnostics_of};
 ghost use Rattle.listing.specs.Answers.{listed, refused};
-ghost use Rattle.entries.specs.Lists.{outcome_of, size_of, ListIs};
+ghost use Rattle.entries.specs.Lists.{outcome_of, ListIs};
 
-use listing::{Listed, list, list_refused};
+use listing::{ListError, list, list_refused};
 
-fn outcome_of(answer: Listed) -> u32
+fn outcome_of(answer: Result<usize, ListError>) -> u32
     ensures { result ≡ outcome_of answer }
 {
     match answer {
-        Listed::Text(_) => 0,
-        Listed::Room => 10,
-        Listed::Kind => 11,
+        Ok(_) => 0,
+        Err(ListError::Room) => 10,
+        Err(ListError::Kind) => 11,
     }
 }
 
-fn size_of(answer: Listed) -> usize
-    ensures { result ≡ size_of answer }
-{
-    match answer {
-        Listed::Text(n) => n,
-        Listed::Room => 0,
-        Listed::Kind => 0,
-    }
-}
-
-// The outcome's number, and the text's length through the last reference.
+// The outcome's number, and the text's length through the last reference; refused, it is 0.
 pub fn cairo_m_list(nodes: &[u8], out: &mut [u8], size: &mut usize) -> u32
     ensures { ListIs (listed (length out.old) (nodes_of nodes.now)) (length out.old) out.new size.new result }
 {
     let listed = list(nodes, out);
-    *size = size_of(listed);
+    *size = listed.unwrap_or(0);
     outcome_of(listed)
 }
 
@@ -44,6 +34,6 @@ pub fn cairo_m_list_refused(
     ensures { ListIs (refused (length out.old) outcome (diagnostics_of diagnostics.now)) (length out.old) out.new size.new result }
 {
     let refused = list_refused(outcome, diagnostics, out);
-    *size = size_of(refused);
+    *size = refused.unwrap_or(0);
     outcome_of(refused)
 }

@@ -1,90 +1,10 @@
 // The numeral entry as numbers, for C.
-ghost use Rattle.std.specs.Prelude.{◌≡◌};
-ghost use Rattle.entries.specs.Numerals.{outcome_of, value_of, suffix_of, base_of, reason_of, NumeralIs};
+ghost use Rattle.entries.specs.Numerals.{NumeralIs};
 
-use numeral::{Answer, answer};
+use numeral::{NumberLiteral, NumeralError, answer};
+use tables::entry_codes::{Reason, Suffix};
 
-// The outcome's number.
-fn outcome_of(a: Answer) -> u32
-    ensures { result ≡ outcome_of a }
-{
-    match a {
-        Answer::Number {
-            value: _,
-            suffix: _,
-            base: _,
-        } => 0,
-        Answer::Long => 1,
-        Answer::Spelling => 9,
-        Answer::Lexical { reason: _ } => 3,
-    }
-}
-
-// The value; refused, it is 0.
-fn value_of(a: Answer) -> u64
-    ensures { result ≡ value_of a }
-{
-    match a {
-        Answer::Number {
-            value,
-            suffix: _,
-            base: _,
-        } => value,
-        Answer::Long => 0,
-        Answer::Spelling => 0,
-        Answer::Lexical { reason: _ } => 0,
-    }
-}
-
-// The suffix; refused, it is 0.
-fn suffix_of(a: Answer) -> u8
-    ensures { result ≡ suffix_of a }
-{
-    match a {
-        Answer::Number {
-            value: _,
-            suffix,
-            base: _,
-        } => suffix,
-        Answer::Long => 0,
-        Answer::Spelling => 0,
-        Answer::Lexical { reason: _ } => 0,
-    }
-}
-
-// The base; refused, it is 0.
-fn base_of(a: Answer) -> u8
-    ensures { result ≡ base_of a }
-{
-    match a {
-        Answer::Number {
-            value: _,
-            suffix: _,
-            base,
-        } => base,
-        Answer::Long => 0,
-        Answer::Spelling => 0,
-        Answer::Lexical { reason: _ } => 0,
-    }
-}
-
-// For a lexical error its reason, else 0.
-fn reason_of(a: Answer) -> u8
-    ensures { result ≡ reason_of a }
-{
-    match a {
-        Answer::Number {
-            value: _,
-            suffix: _,
-            base: _,
-        } => 0,
-        Answer::Long => 0,
-        Answer::Spelling => 0,
-        Answer::Lexical { reason } => reason,
-    }
-}
-
-// The numeral entry, for C.
+// The numeral entry, for C: refused, value, suffix and base are 0; the reason is 0 but for a lexical error.
 pub fn cairo_m_numeral(
     spelling: &[u8],
     value: &mut u64,
@@ -95,9 +15,20 @@ pub fn cairo_m_numeral(
     ensures { NumeralIs spelling.now result value.new suffix.new base.new reason.new }
 {
     let a = answer(spelling);
-    *value = value_of(a);
-    *suffix = suffix_of(a);
-    *base = base_of(a);
-    *reason = reason_of(a);
-    outcome_of(a)
+    let (outcome, why) = match a {
+        Ok(_) => (0, 0),
+        Err(NumeralError::Long) => (1, 0),
+        Err(NumeralError::Spelling) => (9, 0),
+        Err(NumeralError::Lexical(e)) => (3, Reason::from(e) as u8),
+    };
+    let literal = a.unwrap_or(NumberLiteral {
+        value: 0,
+        suffix: Suffix::Absent,
+        base: 0,
+    });
+    *value = literal.value;
+    *suffix = literal.suffix as u8;
+    *base = literal.base;
+    *reason = why;
+    outcome
 }

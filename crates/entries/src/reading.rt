@@ -1,74 +1,14 @@
 // A reading as numbers, and the spelling of a name, for C.
 ghost use Rattle.std.specs.Prelude.{◌≡◌, length};
-ghost use Rattle.cairo_m.specs.Reading.{counts_of};
 ghost use Rattle.entries.specs.Numbers.{NumbersAre, EntryIs};
 ghost use Rattle.entries.specs.Spelling.{spelling_of};
 
 use crate::names::spelling;
 use crate::records::{Diagnostic, lay};
-use cairo_m::{Reading, outcome_of, read};
-
-// The number of tokens that the answer speaks of.
-fn token_count_of(r: Reading) -> usize
-    ensures { result ≡ (counts_of r).tokens }
-{
-    match r {
-        Reading::Accepted {
-            tokens: t,
-            nodes: _,
-        } => t,
-        Reading::Long => 0,
-        Reading::Encoding => 0,
-        Reading::Lexical(_) => 0,
-        Reading::TokenRoom(t) => t,
-        Reading::Nest => 0,
-        Reading::NodeRoom(_) => 0,
-        Reading::Syntax => 0,
-        Reading::Suffix(_) => 0,
-    }
-}
-
-// The number of nodes.
-fn node_count_of(r: Reading) -> usize
-    ensures { result ≡ (counts_of r).nodes }
-{
-    match r {
-        Reading::Accepted {
-            tokens: _,
-            nodes: n,
-        } => n,
-        Reading::Long => 0,
-        Reading::Encoding => 0,
-        Reading::Lexical(_) => 0,
-        Reading::TokenRoom(_) => 0,
-        Reading::Nest => 0,
-        Reading::NodeRoom(n) => n,
-        Reading::Syntax => 0,
-        Reading::Suffix(_) => 0,
-    }
-}
-
-// The number of errors.
-fn diagnostic_count_of(r: Reading) -> usize
-    ensures { result ≡ (counts_of r).diagnostics }
-{
-    match r {
-        Reading::Accepted {
-            tokens: _,
-            nodes: _,
-        } => 0,
-        Reading::Long => 0,
-        Reading::Encoding => 0,
-        Reading::Lexical(d) => d,
-        Reading::TokenRoom(_) => 0,
-        Reading::Nest => 0,
-        Reading::NodeRoom(_) => 0,
-        Reading::Syntax => 1,
-        Reading::Suffix(d) => d,
-    }
-}
+use cairo_m::{counts_of, outcome_of, read};
 
 // A reading whose answer is numbers: the outcome's, and through the last references how many tokens, nodes and errors there are.
+// The counts are three references since C lends three places.
 pub fn read_numbers(
     text: &[u8],
     tokens: &mut [u8],
@@ -81,9 +21,10 @@ pub fn read_numbers(
     ensures { NumbersAre text.now (length tokens.old) (length nodes.old) (length diagnostics.old) tokens.new nodes.new diagnostics.new result token_count.new node_count.new diagnostic_count.new }
 {
     let r = read(text, tokens, nodes, diagnostics);
-    *token_count = token_count_of(r);
-    *node_count = node_count_of(r);
-    *diagnostic_count = diagnostic_count_of(r);
+    let counts = counts_of(r);
+    *token_count = counts.tokens;
+    *node_count = counts.nodes;
+    *diagnostic_count = counts.diagnostics;
     outcome_of(r)
 }
 
@@ -117,6 +58,5 @@ pub fn cairo_m_read(
 pub fn cairo_m_spelling(text: &[u8], kind: u8, start: u16, end: u16) -> usize
     ensures { result ≡ length (spelling_of text.now kind start end) }
 {
-    let s = spelling(text, kind, start, end);
-    s.len()
+    spelling(text, kind, start, end).len()
 }

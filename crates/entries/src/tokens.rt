@@ -2,7 +2,7 @@
 ghost use Rattle.std.specs.Prelude.{length};
 ghost use Rattle.entries.specs.Tokens.{LexIs};
 
-use lexer::{Answer, lex_alone};
+use lexer::{LexError, lex_alone};
 
 // The outcome's number, and through the last two references how many tokens and diagnostics there are.
 pub fn cairo_m_lex(
@@ -16,23 +16,19 @@ pub fn cairo_m_lex(
 {
     *token_count = 0;
     *diagnostic_count = 0;
-    let a = lex_alone(text, tokens, diagnostics);
-    match a {
-        Answer::Accepted {
-            tokens: t,
-            unknown: _,
-        } => {
-            *token_count = t;
+    match lex_alone(text, tokens, diagnostics) {
+        Ok(lexed) => {
+            *token_count = lexed.tokens;
             0
         }
-        Answer::Long => 1,
-        Answer::Encoding => 2,
-        Answer::Lexical(d) => {
-            *diagnostic_count = d;
+        Err(LexError::Long) => 1,
+        Err(LexError::Encoding) => 2,
+        Err(LexError::Lexical(count)) => {
+            *diagnostic_count = count;
             3
         }
-        Answer::TokenRoom(t) => {
-            *token_count = t;
+        Err(LexError::TokenRoom(count)) => {
+            *token_count = count;
             4
         }
     }

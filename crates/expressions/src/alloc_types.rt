@@ -3,20 +3,19 @@ ghost use Rattle.grammar.specs.Derive.{rule, alloc, ◌or◌};
 ghost use Rattle.grammar.specs.Grammar.{entries, named_type, tuple_type, tuple_end, stars};
 ghost use Rattle.cursor.specs.Read.{Reads, Puts, Inside};
 
-use cursor::{Cursor, FAILED, Part, READING, deeper, type_name};
-use grammar::node_kind;
-use tables::token_type::{COMMA, IDENTIFIER, L_PAREN, MUL, R_PAREN};
+use cursor::{Cursor, Part, Source, Status, deeper};
+use grammar::node_kind::NodeKind;
+use tables::token_type::TokenType;
 
 #[cycle(alloc)]
-pub fn alloc_type_expr(text: &[u8], tokens: &[u8], nodes: &mut [u8], cursor: Cursor) -> Cursor
-    ensures { Reads (rule alloc) text.now tokens.now cursor nodes.old result nodes.new }
+pub fn alloc_type_expr(source: &Source, nodes: &mut [u8], cursor: Cursor) -> Cursor
+    ensures { Reads (rule alloc) source.now.text.now source.now.tokens.now cursor nodes.old result nodes.new }
 {
-    if cursor.status != READING {
+    if cursor.status != Status::Reading {
         return cursor;
     }
     let q = alloc_at(
-        text,
-        tokens,
+        source,
         nodes,
         cursor.at,
         cursor.count,
@@ -29,54 +28,59 @@ pub fn alloc_type_expr(text: &[u8], tokens: &[u8], nodes: &mut [u8], cursor: Cur
 // The inside of a type after `new`.
 #[cycle(alloc)]
 fn alloc_at(
-    text: &[u8],
-    tokens: &[u8],
+    source: &Source,
     nodes: &mut [u8],
     at: usize,
     count: usize,
     nest: u8,
     furthest: usize,
 ) -> Part
-    ensures { Inside alloc text.now tokens.now at count nest furthest nodes.old result nodes.new }
+    ensures { Inside alloc source.now.text.now source.now.tokens.now at count nest furthest nodes.old result nodes.new }
 {
     let p = Cursor::begin(at, count, nest, furthest);
-    let p = alloc_base(text, tokens, nodes, p);
-    let p = pointers(tokens, nodes, p);
+    let p = alloc_base(source, nodes, p);
+    let p = pointers(source.tokens, nodes, p);
     p.ended()
 }
 
 #[cycle(alloc)]
-fn alloc_base(text: &[u8], tokens: &[u8], nodes: &mut [u8], cursor: Cursor) -> Cursor
-    ensures { Reads (named_type or tuple_type alloc) text.now tokens.now cursor nodes.old result nodes.new }
+fn alloc_base(source: &Source, nodes: &mut [u8], cursor: Cursor) -> Cursor
+    ensures { Reads (named_type or tuple_type alloc) source.now.text.now source.now.tokens.now cursor nodes.old result nodes.new }
 {
-    if cursor.status != READING {
+    if cursor.status != Status::Reading {
         return cursor;
     }
-    let k = cursor.peek(tokens);
-    if k == IDENTIFIER {
-        let name = type_name(text, tokens, cursor.at);
-        return cursor.leaf(tokens, nodes, IDENTIFIER, node_kind::NAMED, name);
+    let k = cursor.peek(source.tokens);
+    if k.is(TokenType::Identifier) {
+        let name = source.type_name(cursor.at);
+        return cursor.leaf(
+            source.tokens,
+            nodes,
+            TokenType::Identifier,
+            NodeKind::Named,
+            name as u64,
+        );
     }
-    let p = cursor.take(tokens, L_PAREN);
-    let p = alloc_entries(text, tokens, nodes, p);
-    tuple_end(tokens, nodes, p)
+    let p = cursor.take(source.tokens, TokenType::LParen);
+    let p = alloc_entries(source, nodes, p);
+    tuple_end(source.tokens, nodes, p)
 }
 
 #[cycle(alloc)]
-fn alloc_entries(text: &[u8], tokens: &[u8], nodes: &mut [u8], cursor: Cursor) -> Cursor
-    ensures { Reads (entries (rule alloc)) text.now tokens.now cursor nodes.old result nodes.new }
+fn alloc_entries(source: &Source, nodes: &mut [u8], cursor: Cursor) -> Cursor
+    ensures { Reads (entries (rule alloc)) source.now.text.now source.now.tokens.now cursor nodes.old result nodes.new }
 {
-    if cursor.status != READING {
+    if cursor.status != Status::Reading {
         return cursor;
     }
-    let mut p = alloc_type_expr(text, tokens, nodes, cursor);
-    if p.status == FAILED {
+    let mut p = alloc_type_expr(source, nodes, cursor);
+    if p.status == Status::Failed {
         return cursor.rewind(p);
     }
-    while p.status == READING {
-        let q = p.take(tokens, COMMA);
-        let q = alloc_type_expr(text, tokens, nodes, q);
-        if q.status == FAILED {
+    while p.status == Status::Reading {
+        let q = p.take(source.tokens, TokenType::Comma);
+        let q = alloc_type_expr(source, nodes, q);
+        if q.status == Status::Failed {
             return p.rewind(q);
         }
         p = q;
@@ -89,16 +93,16 @@ pub fn tuple_end(tokens: &[u8], nodes: &mut [u8], cursor: Cursor) -> Cursor
     ensures { Puts tuple_end tokens.now cursor nodes.old result nodes.new }
 {
     let k = cursor.peek(tokens);
-    if k == COMMA {
-        let p = cursor.take(tokens, COMMA);
-        let p = p.take(tokens, R_PAREN);
-        return p.whole(tokens, nodes, node_kind::TYPE_TUPLE);
+    if k.is(TokenType::Comma) {
+        let p = cursor.take(tokens, TokenType::Comma);
+        let p = p.take(tokens, TokenType::RParen);
+        return p.whole(tokens, nodes, NodeKind::TypeTuple);
     }
-    let p = cursor.take(tokens, R_PAREN);
+    let p = cursor.take(tokens, TokenType::RParen);
     let q = p.alone();
-    if q.status == FAILED {
+    if q.status == Status::Failed {
         let p = p.rewind(q);
-        return p.whole(tokens, nodes, node_kind::TYPE_TUPLE);
+        return p.whole(tokens, nodes, NodeKind::TypeTuple);
     }
     q
 }
@@ -107,10 +111,10 @@ pub fn pointers(tokens: &[u8], nodes: &mut [u8], cursor: Cursor) -> Cursor
     ensures { Puts stars tokens.now cursor nodes.old result nodes.new }
 {
     let mut p = cursor;
-    while p.status == READING {
-        let q = p.take(tokens, MUL);
-        let q = q.suffixed(tokens, nodes, node_kind::POINTER);
-        if q.status == FAILED {
+    while p.status == Status::Reading {
+        let q = p.take(tokens, TokenType::Mul);
+        let q = q.suffixed(tokens, nodes, NodeKind::Pointer);
+        if q.status == Status::Failed {
             return p.rewind(q);
         }
         p = q;

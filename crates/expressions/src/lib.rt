@@ -3,31 +3,29 @@
 
 pub mod alloc_types;
 
+ghost use Rattle.std.specs.Prelude.{◌≡◌};
 ghost use Rattle.grammar.specs.Derive.{rule, expr, level, unary, many, ◌&◌, ◌or◌};
 ghost use Rattle.grammar.specs.Kinds.{ArrayRepeat};
 ghost use Rattle.grammar.specs.Grammar.{whole, another, list, field, fields, cast, link, operator, atom, postfix, new_expr, struct_literal, array_repeat, array_literal, paren_or_tuple, repeat_count};
 ghost use Rattle.cursor.specs.Read.{Reads, Puts, Step, Inside};
-ghost use Rattle.cursor.specs.Steps.{Plain, Prefix, Prefixes, Unwound};
+ghost use Rattle.cursor.specs.Steps.{continues, Prefix, Prefixes, Unwound};
 
 use crate::alloc_types::alloc_type_expr;
-use cursor::{Cursor, FAILED, Part, READING, deeper, type_name};
-use grammar::node_kind;
-use tables::token_type;
-use tables::token_type::{
-    AS, COLON, COMMA, DOT, FALSE, IDENTIFIER, L_BRACE, L_BRACK, L_PAREN, LITERAL_NUMBER, MINUS,
-    NEW, NOT, R_BRACE, R_BRACK, R_PAREN, SEMICOLON, TRUE,
-};
+use cursor::{Cursor, Kind, Part, Source, Status, deeper};
+use grammar::node_kind::NodeKind;
+use grammar::node_value::{BinaryOp, UnaryOp};
+use tables::token_type::TokenType;
 
+// The rules of a cycle of calls call each its inside by name: a call that leads back through a trait's method gets no proof.
 #[cycle(expressions)]
-pub fn expr(text: &[u8], tokens: &[u8], nodes: &mut [u8], cursor: Cursor) -> Cursor
-    ensures { Reads (rule expr) text.now tokens.now cursor nodes.old result nodes.new }
+pub fn expr(source: &Source, nodes: &mut [u8], cursor: Cursor) -> Cursor
+    ensures { Reads (rule expr) source.now.text.now source.now.tokens.now cursor nodes.old result nodes.new }
 {
-    if cursor.status != READING {
+    if cursor.status != Status::Reading {
         return cursor;
     }
     let q = level_at(
-        text,
-        tokens,
+        source,
         nodes,
         cursor.at,
         cursor.count,
@@ -40,15 +38,14 @@ pub fn expr(text: &[u8], tokens: &[u8], nodes: &mut [u8], cursor: Cursor) -> Cur
 
 // The nth binary level, tightest first.
 #[cycle(expressions)]
-pub(crate) fn level(text: &[u8], tokens: &[u8], nodes: &mut [u8], cursor: Cursor, n: u8) -> Cursor
-    ensures { Reads (rule (level n)) text.now tokens.now cursor nodes.old result nodes.new }
+pub(crate) fn level(source: &Source, nodes: &mut [u8], cursor: Cursor, n: u8) -> Cursor
+    ensures { Reads (rule (level n)) source.now.text.now source.now.tokens.now cursor nodes.old result nodes.new }
 {
-    if cursor.status != READING {
+    if cursor.status != Status::Reading {
         return cursor;
     }
     let q = level_at(
-        text,
-        tokens,
+        source,
         nodes,
         cursor.at,
         cursor.count,
@@ -59,11 +56,10 @@ pub(crate) fn level(text: &[u8], tokens: &[u8], nodes: &mut [u8], cursor: Cursor
     cursor.join(q)
 }
 
-// Over casts each level goes on from what the level below has read. The binary operators are the kinds from AND_AND to MOD; where none stands, no level reads on.
+// Over casts each level goes on from what the level below has read. The binary operators are the kinds from AndAnd to Mod; where none stands, no level reads on.
 #[cycle(expressions)]
 pub(crate) fn level_at(
-    text: &[u8],
-    tokens: &[u8],
+    source: &Source,
     nodes: &mut [u8],
     at: usize,
     count: usize,
@@ -71,41 +67,36 @@ pub(crate) fn level_at(
     furthest: usize,
     n: u8,
 ) -> Part
-    ensures { Inside (level n) text.now tokens.now at count nest furthest nodes.old result nodes.new }
+    ensures { Inside (level n) source.now.text.now source.now.tokens.now at count nest furthest nodes.old result nodes.new }
 {
     let start = Cursor::begin(at, count, nest, furthest);
-    let p = unary(text, tokens, nodes, start);
-    let p = casts(text, tokens, nodes, p);
+    let p = unary(source, nodes, start);
+    let p = casts(source, nodes, p);
     let mut p = p;
-    let mut i = 0;
-    while i < n {
-        let k = p.peek(tokens);
-        if k < token_type::AND_AND {
+    for i in 0..n {
+        let k = p.peek(source.tokens);
+        if !k.is_among(TokenType::AndAnd, TokenType::Mod) {
             return p.ended();
         }
-        if k > token_type::MOD {
-            return p.ended();
-        }
-        p = chain(text, tokens, nodes, p, i);
-        i = i + 1;
+        p = chain(source, nodes, p, i);
     }
     p.ended()
 }
 
 // Operators of a level, each with all that stands left of it.
 #[cycle(expressions)]
-fn chain(text: &[u8], tokens: &[u8], nodes: &mut [u8], cursor: Cursor, n: u8) -> Cursor
-    ensures { Reads (many (link n)) text.now tokens.now cursor nodes.old result nodes.new }
+fn chain(source: &Source, nodes: &mut [u8], cursor: Cursor, n: u8) -> Cursor
+    ensures { Reads (many (link n)) source.now.text.now source.now.tokens.now cursor nodes.old result nodes.new }
 {
     let mut p = cursor;
-    while p.status == READING {
-        let q = operator(tokens, p, n);
-        if q.status == FAILED {
+    while p.status == Status::Reading {
+        let q = operator(source.tokens, p, n);
+        if q.status == Status::Failed {
             return p.rewind(q);
         }
-        let q = level(text, tokens, nodes, q, n);
-        let q = q.operands(nodes, node_kind::BINARY);
-        if q.status == FAILED {
+        let q = level(source, nodes, q, n);
+        let q = q.operands(nodes, NodeKind::Binary);
+        if q.status == Status::Failed {
             return p.rewind(q);
         }
         p = q;
@@ -113,73 +104,83 @@ fn chain(text: &[u8], tokens: &[u8], nodes: &mut [u8], cursor: Cursor, n: u8) ->
     p
 }
 
-// An operator of a level, whose number is the mark.
+// An operator of a level, whose number is the mark. These are tests: a kind is a byte, which may be no TokenType, and a `match` on it would name each of them as a number.
 fn operator(tokens: &[u8], cursor: Cursor, n: u8) -> Cursor
     ensures { Step (operator n) tokens.now cursor result }
 {
     let k = cursor.peek(tokens);
     if n == 0 {
-        if k == token_type::MUL {
-            return cursor.mark(tokens, token_type::MUL, 2);
+        if k.is(TokenType::Mul) {
+            return cursor.mark(tokens, TokenType::Mul, BinaryOp::Mul as u64);
         }
-        if k == token_type::DIV {
-            return cursor.mark(tokens, token_type::DIV, 3);
+        if k.is(TokenType::Div) {
+            return cursor.mark(tokens, TokenType::Div, BinaryOp::Div as u64);
         }
-        return cursor.mark(tokens, token_type::MOD, 4);
+        return cursor.mark(tokens, TokenType::Mod, BinaryOp::Mod as u64);
     }
     if n == 1 {
-        if k == token_type::PLUS {
-            return cursor.mark(tokens, token_type::PLUS, 0);
+        if k.is(TokenType::Plus) {
+            return cursor.mark(tokens, TokenType::Plus, BinaryOp::Add as u64);
         }
-        return cursor.mark(tokens, token_type::MINUS, 1);
+        return cursor.mark(tokens, TokenType::Minus, BinaryOp::Sub as u64);
     }
     if n == 2 {
-        if k == token_type::EQ_EQ {
-            return cursor.mark(tokens, token_type::EQ_EQ, 5);
+        if k.is(TokenType::EqEq) {
+            return cursor.mark(tokens, TokenType::EqEq, BinaryOp::Eq as u64);
         }
-        if k == token_type::NEQ {
-            return cursor.mark(tokens, token_type::NEQ, 6);
+        if k.is(TokenType::Neq) {
+            return cursor.mark(tokens, TokenType::Neq, BinaryOp::Neq as u64);
         }
-        if k == token_type::LESS {
-            return cursor.mark(tokens, token_type::LESS, 7);
+        if k.is(TokenType::Less) {
+            return cursor.mark(tokens, TokenType::Less, BinaryOp::Less as u64);
         }
-        if k == token_type::GREATER {
-            return cursor.mark(tokens, token_type::GREATER, 8);
+        if k.is(TokenType::Greater) {
+            return cursor.mark(tokens, TokenType::Greater, BinaryOp::Greater as u64);
         }
-        if k == token_type::LESS_EQUAL {
-            return cursor.mark(tokens, token_type::LESS_EQUAL, 9);
+        if k.is(TokenType::LessEqual) {
+            return cursor.mark(tokens, TokenType::LessEqual, BinaryOp::LessEqual as u64);
         }
-        return cursor.mark(tokens, token_type::GREATER_EQUAL, 10);
+        return cursor.mark(
+            tokens,
+            TokenType::GreaterEqual,
+            BinaryOp::GreaterEqual as u64,
+        );
     }
     if n == 3 {
-        if k == token_type::BITWISE_AND {
-            return cursor.mark(tokens, token_type::BITWISE_AND, 13);
+        if k.is(TokenType::BitwiseAnd) {
+            return cursor.mark(tokens, TokenType::BitwiseAnd, BinaryOp::BitwiseAnd as u64);
         }
-        if k == token_type::BITWISE_OR {
-            return cursor.mark(tokens, token_type::BITWISE_OR, 14);
+        if k.is(TokenType::BitwiseOr) {
+            return cursor.mark(tokens, TokenType::BitwiseOr, BinaryOp::BitwiseOr as u64);
         }
-        return cursor.mark(tokens, token_type::BITWISE_XOR, 15);
+        return cursor.mark(tokens, TokenType::BitwiseXor, BinaryOp::BitwiseXor as u64);
     }
-    if k == token_type::AND_AND {
-        return cursor.mark(tokens, token_type::AND_AND, 11);
+    if k.is(TokenType::AndAnd) {
+        return cursor.mark(tokens, TokenType::AndAnd, BinaryOp::And as u64);
     }
-    cursor.mark(tokens, token_type::OR_OR, 12)
+    cursor.mark(tokens, TokenType::OrOr, BinaryOp::Or as u64)
 }
 
-fn casts(text: &[u8], tokens: &[u8], nodes: &mut [u8], cursor: Cursor) -> Cursor
-    ensures { Reads (many cast) text.now tokens.now cursor nodes.old result nodes.new }
+fn casts(source: &Source, nodes: &mut [u8], cursor: Cursor) -> Cursor
+    ensures { Reads (many cast) source.now.text.now source.now.tokens.now cursor nodes.old result nodes.new }
 {
     let mut p = cursor;
-    while p.status == READING {
-        let k = p.peek(tokens);
-        if k != AS {
+    while p.status == Status::Reading {
+        let k = p.peek(source.tokens);
+        if !k.is(TokenType::As) {
             return p;
         }
-        let q = p.take(tokens, AS);
-        let name = type_name(text, tokens, q.at);
-        let q = q.leaf(tokens, nodes, IDENTIFIER, node_kind::NAMED, name);
-        let q = q.operands(nodes, node_kind::CAST);
-        if q.status == FAILED {
+        let q = p.take(source.tokens, TokenType::As);
+        let name = source.type_name(q.at);
+        let q = q.leaf(
+            source.tokens,
+            nodes,
+            TokenType::Identifier,
+            NodeKind::Named,
+            name as u64,
+        );
+        let q = q.operands(nodes, NodeKind::Cast);
+        if q.status == Status::Failed {
             return p.rewind(q);
         }
         p = q;
@@ -187,14 +188,17 @@ fn casts(text: &[u8], tokens: &[u8], nodes: &mut [u8], cursor: Cursor) -> Cursor
     p
 }
 
-// A prefix's number and 1, or 0 if a token of this kind is none.
-fn unary_op(kind: u8) -> u64
-    ensures { Prefix kind result }
+// The prefix that a token of this kind is, if it is one.
+fn unary_op(kind: Kind) -> Option<UnaryOp>
+    ensures { Prefix kind.byte result }
 {
-    if kind == NOT {
-        return 1;
+    if kind.is(TokenType::Not) {
+        return Some(UnaryOp::Not);
     }
-    if kind == MINUS { 2 } else { 0 }
+    if kind.is(TokenType::Minus) {
+        return Some(UnaryOp::Neg);
+    }
+    None
 }
 
 // Where the prefixes from a token on end.
@@ -202,10 +206,8 @@ fn prefixes(tokens: &[u8], at: usize) -> usize
     ensures { Prefixes tokens.now at result }
 {
     let mut end = at;
-    let mut s = unary_op(token::kind(tokens, at));
-    while s != 0 {
-        end = end + 1;
-        s = unary_op(token::kind(tokens, end));
+    while unary_op(Kind::of(tokens, end)).is_some() {
+        end += 1;
     }
     end
 }
@@ -215,37 +217,41 @@ fn unwind(tokens: &[u8], nodes: &mut [u8], start: Cursor, end: usize, operand: C
     ensures { Unwound tokens.now start end operand nodes.old result nodes.new }
 {
     let mut p = operand;
-    let mut e = end;
-    while e > start.at {
-        let s = unary_op(token::kind(tokens, e - 1));
-        if s == 0 {
+    for e in (start.at..end).rev() {
+        let Some(op) = unary_op(Kind::of(tokens, e)) else {
             return p;
-        }
-        let q = start.signed(e - 1, e, s - 1);
+        };
+        let q = start.signed(e, e + 1, op as u64);
         let q = p.leave(q);
-        p = q.prefixed(tokens, nodes, node_kind::UNARY);
-        e = e - 1;
+        p = q.prefixed(tokens, nodes, NodeKind::Unary);
     }
     p
 }
 
 #[cycle(expressions)]
-fn unary(text: &[u8], tokens: &[u8], nodes: &mut [u8], cursor: Cursor) -> Cursor
-    ensures { Reads (rule unary) text.now tokens.now cursor nodes.old result nodes.new }
+fn unary(source: &Source, nodes: &mut [u8], cursor: Cursor) -> Cursor
+    ensures { Reads (rule unary) source.now.text.now source.now.tokens.now cursor nodes.old result nodes.new }
 {
-    if cursor.status != READING {
+    if cursor.status != Status::Reading {
         return cursor;
     }
-    let plain = plain_operand(cursor.peek(tokens), cursor.second(tokens));
-    if plain == 1 {
-        return cursor.leaf(tokens, nodes, IDENTIFIER, node_kind::IDENTIFIER, 0);
-    }
-    if plain == 2 {
-        return cursor.literal(tokens, nodes);
+    if !continues(cursor.second(source.tokens)) {
+        let k = cursor.peek(source.tokens);
+        if k.is(TokenType::Identifier) {
+            return cursor.leaf(
+                source.tokens,
+                nodes,
+                TokenType::Identifier,
+                NodeKind::Identifier,
+                0,
+            );
+        }
+        if k.is(TokenType::LiteralNumber) {
+            return cursor.literal(source.tokens, nodes);
+        }
     }
     let q = unary_at(
-        text,
-        tokens,
+        source,
         nodes,
         cursor.at,
         cursor.count,
@@ -255,69 +261,56 @@ fn unary(text: &[u8], tokens: &[u8], nodes: &mut [u8], cursor: Cursor) -> Cursor
     cursor.join(q)
 }
 
-// 1 for a name and 2 for a numeral, where the second token continues neither; else 0.
-fn plain_operand(first: u8, second: u8) -> u8
-    ensures { Plain first second result }
+// A token of this kind continues a name or a numeral before it.
+fn continues(kind: Kind) -> bool
+    ensures { result ≡ continues kind.byte }
 {
-    if second == L_PAREN {
-        return 0;
-    }
-    if second == DOT {
-        return 0;
-    }
-    if second == L_BRACK {
-        return 0;
-    }
-    if second == L_BRACE {
-        return 0;
-    }
-    if first == IDENTIFIER {
-        return 1;
-    }
-    if first == LITERAL_NUMBER { 2 } else { 0 }
+    kind.is(TokenType::LParen)
+        || kind.is(TokenType::Dot)
+        || kind.is(TokenType::LBrack)
+        || kind.is(TokenType::LBrace)
 }
 
 // Prefixes by a loop: the operand is read past them all.
 #[cycle(expressions)]
 pub(crate) fn unary_at(
-    text: &[u8],
-    tokens: &[u8],
+    source: &Source,
     nodes: &mut [u8],
     at: usize,
     count: usize,
     nest: u8,
     furthest: usize,
 ) -> Part
-    ensures { Inside unary text.now tokens.now at count nest furthest nodes.old result nodes.new }
+    ensures { Inside unary source.now.text.now source.now.tokens.now at count nest furthest nodes.old result nodes.new }
 {
     let start = Cursor::begin(at, count, nest, furthest);
-    let end = prefixes(tokens, start.at);
+    let end = prefixes(source.tokens, start.at);
     let p = start.operand(end);
-    if p.status != READING {
+    if p.status != Status::Reading {
         return p.ended();
     }
-    let p = postfixed(text, tokens, nodes, p);
-    let p = unwind(tokens, nodes, start, end, p);
+    let p = postfixed(source, nodes, p);
+    let p = unwind(source.tokens, nodes, start, end, p);
     p.ended()
 }
 
 // The atom, then postfixes. The first round of the loop reads the atom: what stands in a loop is compiled for speed.
 #[cycle(expressions)]
-fn postfixed(text: &[u8], tokens: &[u8], nodes: &mut [u8], cursor: Cursor) -> Cursor
-    ensures { Reads (atom & many postfix) text.now tokens.now cursor nodes.old result nodes.new }
+fn postfixed(source: &Source, nodes: &mut [u8], cursor: Cursor) -> Cursor
+    ensures { Reads (atom & many postfix) source.now.text.now source.now.tokens.now cursor nodes.old result nodes.new }
 {
-    if cursor.status != READING {
+    if cursor.status != Status::Reading {
         return cursor;
     }
     let mut p = cursor;
     let mut first = true;
-    while p.status == READING {
+    while p.status == Status::Reading {
         if first {
-            p = atom(text, tokens, nodes, p);
+            p = atom(source, nodes, p);
             first = false;
         } else {
-            let q = postfix_op(text, tokens, nodes, p);
-            if q.status == FAILED {
+            let q = postfix_op(source, nodes, p);
+            if q.status == Status::Failed {
                 return p.rewind(q);
             }
             p = q;
@@ -327,78 +320,79 @@ fn postfixed(text: &[u8], tokens: &[u8], nodes: &mut [u8], cursor: Cursor) -> Cu
 }
 
 #[cycle(expressions)]
-fn postfix_op(text: &[u8], tokens: &[u8], nodes: &mut [u8], cursor: Cursor) -> Cursor
-    ensures { Reads postfix text.now tokens.now cursor nodes.old result nodes.new }
+fn postfix_op(source: &Source, nodes: &mut [u8], cursor: Cursor) -> Cursor
+    ensures { Reads postfix source.now.text.now source.now.tokens.now cursor nodes.old result nodes.new }
 {
-    if cursor.status != READING {
+    if cursor.status != Status::Reading {
         return cursor;
     }
-    let k = cursor.peek(tokens);
-    if k == L_PAREN {
-        let p = cursor.take(tokens, L_PAREN);
-        let p = arguments(text, tokens, nodes, p);
-        let p = p.take(tokens, R_PAREN);
+    let k = cursor.peek(source.tokens);
+    if k.is(TokenType::LParen) {
+        let p = cursor.take(source.tokens, TokenType::LParen);
+        let p = arguments(source, nodes, p);
+        let p = p.take(source.tokens, TokenType::RParen);
         return p.called(nodes);
     }
-    if k == DOT {
-        let p = cursor.take(tokens, DOT);
-        let q = p.index(tokens);
-        let q = q.suffixed(tokens, nodes, node_kind::TUPLE_INDEX);
-        if q.status != FAILED {
+    if k.is(TokenType::Dot) {
+        let p = cursor.take(source.tokens, TokenType::Dot);
+        let q = p.index(source.tokens);
+        let q = q.suffixed(source.tokens, nodes, NodeKind::TupleIndex);
+        if q.status != Status::Failed {
             return q;
         }
         let p = p.rewind(q);
-        let q = p.spanned_ident(tokens, nodes);
-        return q.operands(nodes, node_kind::MEMBER);
+        let q = p.spanned_ident(source.tokens, nodes);
+        return q.operands(nodes, NodeKind::Member);
     }
-    let p = cursor.take(tokens, L_BRACK);
-    if p.status != READING {
+    let p = cursor.take(source.tokens, TokenType::LBrack);
+    if p.status != Status::Reading {
         return p;
     }
-    let p = expr(text, tokens, nodes, p);
-    let p = p.take(tokens, R_BRACK);
-    p.operands(nodes, node_kind::INDEX)
+    let p = expr(source, nodes, p);
+    let p = p.take(source.tokens, TokenType::RBrack);
+    p.operands(nodes, NodeKind::Index)
 }
 
+// Lists within a cycle of calls have a loop each: a call that leads back through a trait's method gets no proof.
 #[cycle(expressions)]
-fn arguments(text: &[u8], tokens: &[u8], nodes: &mut [u8], cursor: Cursor) -> Cursor
-    ensures { Reads (list (rule expr)) text.now tokens.now cursor nodes.old result nodes.new }
+fn arguments(source: &Source, nodes: &mut [u8], cursor: Cursor) -> Cursor
+    ensures { Reads (list (rule expr)) source.now.text.now source.now.tokens.now cursor nodes.old result nodes.new }
 {
-    if cursor.status != READING {
+    if cursor.status != Status::Reading {
         return cursor;
     }
-    let k = cursor.peek(tokens);
-    if k == R_PAREN {
+    let k = cursor.peek(source.tokens);
+    if k.is(TokenType::RParen) {
         return cursor;
     }
     let mut p = cursor;
-    while p.status == READING {
-        let q = expr(text, tokens, nodes, p);
-        if q.status == FAILED {
+    while p.status == Status::Reading {
+        let q = expr(source, nodes, p);
+        if q.status == Status::Failed {
             return p.rewind(q);
         }
-        let k = q.peek(tokens);
-        if k != COMMA {
+        let k = q.peek(source.tokens);
+        if !k.is(TokenType::Comma) {
             return q;
         }
-        p = q.take(tokens, COMMA);
+        p = q.take(source.tokens, TokenType::Comma);
     }
     p
 }
 
 #[cycle(expressions)]
-fn exprs(text: &[u8], tokens: &[u8], nodes: &mut [u8], cursor: Cursor) -> Cursor
-    ensures { Reads (many (another (rule expr))) text.now tokens.now cursor nodes.old result nodes.new }
+fn exprs(source: &Source, nodes: &mut [u8], cursor: Cursor) -> Cursor
+    ensures { Reads (many (another (rule expr))) source.now.text.now source.now.tokens.now cursor nodes.old result nodes.new }
 {
     let mut p = cursor;
-    while p.status == READING {
-        let k = p.peek(tokens);
-        if k != COMMA {
+    while p.status == Status::Reading {
+        let k = p.peek(source.tokens);
+        if !k.is(TokenType::Comma) {
             return p;
         }
-        let q = p.take(tokens, COMMA);
-        let q = expr(text, tokens, nodes, q);
-        if q.status == FAILED {
+        let q = p.take(source.tokens, TokenType::Comma);
+        let q = expr(source, nodes, q);
+        if q.status == Status::Failed {
             return p.rewind(q);
         }
         p = q;
@@ -407,169 +401,175 @@ fn exprs(text: &[u8], tokens: &[u8], nodes: &mut [u8], cursor: Cursor) -> Cursor
 }
 
 #[cycle(expressions)]
-fn atom(text: &[u8], tokens: &[u8], nodes: &mut [u8], cursor: Cursor) -> Cursor
-    ensures { Reads atom text.now tokens.now cursor nodes.old result nodes.new }
+fn atom(source: &Source, nodes: &mut [u8], cursor: Cursor) -> Cursor
+    ensures { Reads atom source.now.text.now source.now.tokens.now cursor nodes.old result nodes.new }
 {
-    if cursor.status != READING {
+    if cursor.status != Status::Reading {
         return cursor;
     }
-    let k = cursor.peek(tokens);
-    if k == IDENTIFIER {
-        let p = struct_literal(text, tokens, nodes, cursor);
-        if p.status != FAILED {
+    let k = cursor.peek(source.tokens);
+    if k.is(TokenType::Identifier) {
+        let p = struct_literal(source, nodes, cursor);
+        if p.status != Status::Failed {
             return p;
         }
         let p = cursor.rewind(p);
-        return p.leaf(tokens, nodes, IDENTIFIER, node_kind::IDENTIFIER, 0);
+        return p.leaf(
+            source.tokens,
+            nodes,
+            TokenType::Identifier,
+            NodeKind::Identifier,
+            0,
+        );
     }
-    if k == LITERAL_NUMBER {
-        return cursor.literal(tokens, nodes);
+    if k.is(TokenType::LiteralNumber) {
+        return cursor.literal(source.tokens, nodes);
     }
-    if k == TRUE {
-        return cursor.leaf(tokens, nodes, TRUE, node_kind::BOOL, 1);
+    if k.is(TokenType::True) {
+        return cursor.leaf(source.tokens, nodes, TokenType::True, NodeKind::Bool, 1);
     }
-    if k == FALSE {
-        return cursor.leaf(tokens, nodes, FALSE, node_kind::BOOL, 0);
+    if k.is(TokenType::False) {
+        return cursor.leaf(source.tokens, nodes, TokenType::False, NodeKind::Bool, 0);
     }
-    if k == NEW {
-        return new_expr(text, tokens, nodes, cursor);
+    if k.is(TokenType::New) {
+        return new_expr(source, nodes, cursor);
     }
-    if k == L_BRACK {
-        return array(text, tokens, nodes, cursor);
+    if k.is(TokenType::LBrack) {
+        return array(source, nodes, cursor);
     }
-    paren_or_tuple(text, tokens, nodes, cursor)
+    paren_or_tuple(source, nodes, cursor)
 }
 
 #[cycle(expressions)]
-fn new_expr(text: &[u8], tokens: &[u8], nodes: &mut [u8], cursor: Cursor) -> Cursor
-    ensures { Reads new_expr text.now tokens.now cursor nodes.old result nodes.new }
+fn new_expr(source: &Source, nodes: &mut [u8], cursor: Cursor) -> Cursor
+    ensures { Reads new_expr source.now.text.now source.now.tokens.now cursor nodes.old result nodes.new }
 {
-    if cursor.status != READING {
+    if cursor.status != Status::Reading {
         return cursor;
     }
-    let p = cursor.take(tokens, NEW);
-    let p = alloc_type_expr(text, tokens, nodes, p);
-    let p = p.take(tokens, L_BRACK);
-    let p = expr(text, tokens, nodes, p);
-    let p = p.take(tokens, R_BRACK);
-    p.whole(tokens, nodes, node_kind::NEW)
+    let p = cursor.take(source.tokens, TokenType::New);
+    let p = alloc_type_expr(source, nodes, p);
+    let p = p.take(source.tokens, TokenType::LBrack);
+    let p = expr(source, nodes, p);
+    let p = p.take(source.tokens, TokenType::RBrack);
+    p.whole(source.tokens, nodes, NodeKind::New)
 }
 
 #[cycle(expressions)]
-fn struct_literal(text: &[u8], tokens: &[u8], nodes: &mut [u8], cursor: Cursor) -> Cursor
-    ensures { Reads struct_literal text.now tokens.now cursor nodes.old result nodes.new }
+fn struct_literal(source: &Source, nodes: &mut [u8], cursor: Cursor) -> Cursor
+    ensures { Reads struct_literal source.now.text.now source.now.tokens.now cursor nodes.old result nodes.new }
 {
-    if cursor.status != READING {
+    if cursor.status != Status::Reading {
         return cursor;
     }
-    let p = cursor.spanned_ident(tokens, nodes);
-    let p = p.take(tokens, L_BRACE);
-    if p.status != READING {
+    let p = cursor.spanned_ident(source.tokens, nodes);
+    let p = p.take(source.tokens, TokenType::LBrace);
+    if p.status != Status::Reading {
         return p;
     }
-    let p = struct_literal_fields(text, tokens, nodes, p);
-    let p = p.take(tokens, R_BRACE);
-    p.whole(tokens, nodes, node_kind::STRUCT_LITERAL)
+    let p = struct_literal_fields(source, nodes, p);
+    let p = p.take(source.tokens, TokenType::RBrace);
+    p.whole(source.tokens, nodes, NodeKind::StructLiteral)
 }
 
 #[cycle(expressions)]
-fn struct_literal_fields(text: &[u8], tokens: &[u8], nodes: &mut [u8], cursor: Cursor) -> Cursor
-    ensures { Reads (fields (rule expr)) text.now tokens.now cursor nodes.old result nodes.new }
+fn struct_literal_fields(source: &Source, nodes: &mut [u8], cursor: Cursor) -> Cursor
+    ensures { Reads (fields (rule expr)) source.now.text.now source.now.tokens.now cursor nodes.old result nodes.new }
 {
-    if cursor.status != READING {
+    if cursor.status != Status::Reading {
         return cursor;
     }
     let mut p = cursor;
-    while p.status == READING {
-        let q = field(text, tokens, nodes, p);
-        if q.status == FAILED {
+    while p.status == Status::Reading {
+        let q = field(source, nodes, p);
+        if q.status == Status::Failed {
             return p.rewind(q);
         }
-        let k = q.peek(tokens);
-        if k != COMMA {
+        let k = q.peek(source.tokens);
+        if !k.is(TokenType::Comma) {
             return q;
         }
-        p = q.take(tokens, COMMA);
+        p = q.take(source.tokens, TokenType::Comma);
     }
     p
 }
 
 #[cycle(expressions)]
-fn field(text: &[u8], tokens: &[u8], nodes: &mut [u8], cursor: Cursor) -> Cursor
-    ensures { Reads (field (rule expr)) text.now tokens.now cursor nodes.old result nodes.new }
+fn field(source: &Source, nodes: &mut [u8], cursor: Cursor) -> Cursor
+    ensures { Reads (field (rule expr)) source.now.text.now source.now.tokens.now cursor nodes.old result nodes.new }
 {
-    if cursor.status != READING {
+    if cursor.status != Status::Reading {
         return cursor;
     }
-    let p = cursor.spanned_ident(tokens, nodes);
-    let p = p.take(tokens, COLON);
-    expr(text, tokens, nodes, p)
+    let p = cursor.spanned_ident(source.tokens, nodes);
+    let p = p.take(source.tokens, TokenType::Colon);
+    expr(source, nodes, p)
 }
 
 // The first element is read once: `;` then tells a repeat from a literal.
 #[cycle(expressions)]
-fn array(text: &[u8], tokens: &[u8], nodes: &mut [u8], cursor: Cursor) -> Cursor
-    ensures { Reads (array_repeat or array_literal) text.now tokens.now cursor nodes.old result nodes.new }
+fn array(source: &Source, nodes: &mut [u8], cursor: Cursor) -> Cursor
+    ensures { Reads (array_repeat or array_literal) source.now.text.now source.now.tokens.now cursor nodes.old result nodes.new }
 {
-    if cursor.status != READING {
+    if cursor.status != Status::Reading {
         return cursor;
     }
-    let p = cursor.take(tokens, L_BRACK);
-    let e = expr(text, tokens, nodes, p);
-    if e.status == FAILED {
+    let p = cursor.take(source.tokens, TokenType::LBrack);
+    let e = expr(source, nodes, p);
+    if e.status == Status::Failed {
         let p = p.rewind(e);
-        let q = p.take(tokens, R_BRACK);
-        return q.whole(tokens, nodes, node_kind::ARRAY);
+        let q = p.take(source.tokens, TokenType::RBrack);
+        return q.whole(source.tokens, nodes, NodeKind::Array);
     }
-    let k = e.peek(tokens);
-    if k == SEMICOLON {
-        let q = e.take(tokens, SEMICOLON);
-        return repeat_end(tokens, nodes, q);
+    let k = e.peek(source.tokens);
+    if k.is(TokenType::Semicolon) {
+        let q = e.take(source.tokens, TokenType::Semicolon);
+        return repeat_end(source.tokens, nodes, q);
     }
-    let q = exprs(text, tokens, nodes, e);
-    let q = q.skip(tokens, COMMA);
-    let q = q.take(tokens, R_BRACK);
-    q.whole(tokens, nodes, node_kind::ARRAY)
+    let q = exprs(source, nodes, e);
+    let q = q.skip(source.tokens, TokenType::Comma);
+    let q = q.take(source.tokens, TokenType::RBrack);
+    q.whole(source.tokens, nodes, NodeKind::Array)
 }
 
 // The count and the bracket, after which a suffix is turned down.
 fn repeat_end(tokens: &[u8], nodes: &mut [u8], cursor: Cursor) -> Cursor
     ensures { Puts (repeat_count & whole ArrayRepeat) tokens.now cursor nodes.old result nodes.new }
 {
-    let e = cursor.take(tokens, LITERAL_NUMBER);
-    let e = e.take(tokens, R_BRACK);
-    if e.status != READING {
+    let e = cursor.take(tokens, TokenType::LiteralNumber);
+    let e = e.take(tokens, TokenType::RBrack);
+    if e.status != Status::Reading {
         return e;
     }
     let p = cursor.outside();
     let p = p.count(tokens, nodes);
-    let p = p.take(tokens, R_BRACK);
+    let p = p.take(tokens, TokenType::RBrack);
     let p = p.agree(e, cursor.nest);
-    p.whole(tokens, nodes, node_kind::ARRAY_REPEAT)
+    p.whole(tokens, nodes, NodeKind::ArrayRepeat)
 }
 
 #[cycle(expressions)]
-fn paren_or_tuple(text: &[u8], tokens: &[u8], nodes: &mut [u8], cursor: Cursor) -> Cursor
-    ensures { Reads paren_or_tuple text.now tokens.now cursor nodes.old result nodes.new }
+fn paren_or_tuple(source: &Source, nodes: &mut [u8], cursor: Cursor) -> Cursor
+    ensures { Reads paren_or_tuple source.now.text.now source.now.tokens.now cursor nodes.old result nodes.new }
 {
-    if cursor.status != READING {
+    if cursor.status != Status::Reading {
         return cursor;
     }
-    let p = cursor.take(tokens, L_PAREN);
-    let k = p.peek(tokens);
-    if k == R_PAREN {
-        let q = p.take(tokens, R_PAREN);
-        return q.whole(tokens, nodes, node_kind::TUPLE);
+    let p = cursor.take(source.tokens, TokenType::LParen);
+    let k = p.peek(source.tokens);
+    if k.is(TokenType::RParen) {
+        let q = p.take(source.tokens, TokenType::RParen);
+        return q.whole(source.tokens, nodes, NodeKind::Tuple);
     }
-    let p = expr(text, tokens, nodes, p);
-    let q = p.take(tokens, R_PAREN);
-    let q = q.whole(tokens, nodes, node_kind::PAREN);
-    if q.status != FAILED {
+    let p = expr(source, nodes, p);
+    let q = p.take(source.tokens, TokenType::RParen);
+    let q = q.whole(source.tokens, nodes, NodeKind::Paren);
+    if q.status != Status::Failed {
         return q;
     }
     let p = p.rewind(q);
-    let q = exprs(text, tokens, nodes, p);
-    let q = q.skip(tokens, COMMA);
-    let q = q.take(tokens, R_PAREN);
-    q.whole(tokens, nodes, node_kind::TUPLE)
+    let q = exprs(source, nodes, p);
+    let q = q.skip(source.tokens, TokenType::Comma);
+    let q = q.take(source.tokens, TokenType::RParen);
+    q.whole(source.tokens, nodes, NodeKind::Tuple)
 }

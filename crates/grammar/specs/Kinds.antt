@@ -1,5 +1,6 @@
 -- The kinds of nodes, in 01's order, from 1. Assumes nothing.
 use Rattle.std.specs.Prelude.{ℕ}
+use Rattle.grammar.specs.declared.node_kind.NodeKind.{NodeKind}
 
 abbrev pub Name : ℕ
 Name = 1
@@ -126,3 +127,48 @@ UseSingle = 41
 
 abbrev pub UseList : ℕ
 UseList = 42
+
+-- the number of a kind
+abbrev pub kind_of : NodeKind → ℕ
+kind_of NodeKind.Name = Name
+kind_of NodeKind.Named = Named
+kind_of NodeKind.Pointer = Pointer
+kind_of NodeKind.TypeTuple = TypeTuple
+kind_of NodeKind.FixedArray = FixedArray
+kind_of NodeKind.Count = Count
+kind_of NodeKind.Literal = Literal
+kind_of NodeKind.LiteralFelt = LiteralFelt
+kind_of NodeKind.LiteralU32 = LiteralU32
+kind_of NodeKind.Bool = Bool·
+kind_of NodeKind.Identifier = Identifier
+kind_of NodeKind.Unary = Unary
+kind_of NodeKind.Binary = Binary
+kind_of NodeKind.Call = Call
+kind_of NodeKind.Member = Member
+kind_of NodeKind.Index = Index
+kind_of NodeKind.StructLiteral = StructLiteral
+kind_of NodeKind.Tuple = Tuple
+kind_of NodeKind.TupleIndex = TupleIndex
+kind_of NodeKind.Array = Array
+kind_of NodeKind.ArrayRepeat = ArrayRepeat
+kind_of NodeKind.Cast = Cast
+kind_of NodeKind.New = New
+kind_of NodeKind.Paren = Paren
+kind_of NodeKind.PatternTuple = PatternTuple
+kind_of NodeKind.Let = Let
+kind_of NodeKind.Const = Const
+kind_of NodeKind.Assign = Assign
+kind_of NodeKind.Return = Return
+kind_of NodeKind.If = If
+kind_of NodeKind.ExprStmt = ExprStmt
+kind_of NodeKind.Block = Block
+kind_of NodeKind.Loop = Loop
+kind_of NodeKind.While = While
+kind_of NodeKind.For = For
+kind_of NodeKind.Break = Break
+kind_of NodeKind.Continue = Continue
+kind_of NodeKind.Param = Param
+kind_of NodeKind.Function = Function
+kind_of NodeKind.StructDef = StructDef
+kind_of NodeKind.UseSingle = UseSingle
+kind_of NodeKind.UseList = UseList

@@ -1,52 +1,58 @@
 -- An array whose values are written one by one. Assumes nothing.
-use mathlib.Core.Path.{◌≡◌, refl, sym, ap, ◌∙◌}
-use mathlib.Core.List.{List, [], ◌∷◌, map}
+use mathlib.Core.Path.{◌≡◌, refl, sym, ap, subst, ◌∙◌}
+use mathlib.Core.List.{List, [], ◌∷◌, ◌++◌, map, append_assoc, append-nil}
 use Prim.Native.Nat.{ℕ, zero, suc, ◌+◌, ◌≤◌, ◌<◌}
 use native.Mathlib.Numerals.{add-one}
 use native.Mathlib.Omega.{arith}
-use lib.ListN.{length, drop}
 use Rattle.tables.specs.Tables.{tabulate}
 use Rattle.json_text.specs.Json.{following, array}
 use Rattle.json_text.specs.Writes.{Writes}
-use Rattle.json_text.proofs.Writing.{both, same_text}
+use Rattle.json_text.specs.declared.writer.Writer.{Writer}
+use Rattle.json_text.proofs.Writing.{both, same_text, nothing}
 
--- ---- what is left of a table from entry i on
-module _ {A : Type 0} where
-  left_next : (n : ℕ) (g : ℕ → A) (i : ℕ) → i < n → drop i (tabulate n g) ≡ g i ∷ drop (suc i) (tabulate n g)
-  unfolding tabulate
-  left_next zero g i h = absurd (omega arith)
-  left_next (suc n) g zero h = refl
-  left_next (suc n) g (suc i) h = left_next n (λ j. g (suc j)) i (omega arith)
+-- the values before value i, with commas between
+pub begun : ℕ → (ℕ → List ℕ) → List ℕ
+begun zero f = []
+begun (suc zero) f = f 0
+begun (suc (suc i)) f = begun (suc i) f ++ (44 ∷ f (suc i))
 
-  pub left_some : (n : ℕ) (g : ℕ → A) (i : ℕ) → i < n → drop i (tabulate n g) ≡ g i ∷ drop (i + 1) (tabulate n g)
-  left_some n g i h = rw (add-one i) (left_next n g i h)
+last_of : {A : Type 0} (n : ℕ) (g : ℕ → A) (l : List A) → tabulate n g ++ (g n ∷ l) ≡ tabulate (suc n) g ++ l
+unfolding tabulate
+last_of zero g l = refl
+last_of (suc n) g l = ap (λ (x : List _). g 0 ∷ x) (last_of n (λ j. g (suc j)) l)
 
-  pub left_none : (n : ℕ) (g : ℕ → A) (i : ℕ) → n ≤ i → drop i (tabulate n g) ≡ []
-  unfolding tabulate
-  left_none zero g zero h = refl
-  left_none zero g (suc i) h = refl
-  left_none (suc n) g zero h = absurd (omega arith)
-  left_none (suc n) g (suc i) h = left_none n (λ j. g (suc j)) i (omega arith)
+begun_on : (i : ℕ) (f : ℕ → List ℕ) (l : List (List ℕ)) → begun (suc i) f ++ following l ≡ f 0 ++ following (tabulate i (λ j. f (suc j)) ++ l)
+unfolding begun tabulate following
+begun_on zero f l = refl
+begun_on (suc i) f l =
+    append_assoc (begun (suc i) f) (44 ∷ f (suc i)) (following l)
+    ∙ begun_on i f (f (suc i) ∷ l)
+    ∙ ap (λ (x : List (List ℕ)). f 0 ++ following x) (last_of i (λ j. f (suc j)) l)
 
--- ---- the values of an array from the second on: whatever writes those from value i on has written them all
-pub record Listing {A : Type 0} (f : A → List ℕ) (n : ℕ) (g : ℕ → A) (at : ℕ) (T : List ℕ) (i next : ℕ) (U : List ℕ) : Type 0 where
-  pub size : length U ≡ length T
-  pub rest : {r : ℕ} {W : List ℕ} → Writes (following (map f (drop i (tabulate n g)))) next U r W → Writes (following (map f (drop 1 (tabulate n g)))) at T r W
+array_is : (n : ℕ) (f : ℕ → List ℕ) → 91 ∷ (begun n f ++ (93 ∷ [])) ≡ array (tabulate n f)
+unfolding begun array following tabulate
+array_is zero f = refl
+array_is (suc n) f = ap (λ (x : List ℕ). 91 ∷ x) (begun_on n f [] ∙ ap (λ (x : List (List ℕ)). f 0 ++ following x) (append-nil (tabulate n (λ j. f (suc j)))))
 
-pub listing_none : {A : Type 0} (f : A → List ℕ) (n : ℕ) (g : ℕ → A) {at : ℕ} {T : List ℕ} {r : ℕ} {U : List ℕ} → n ≡ 0 → Writes (91 ∷ 93 ∷ []) at T r U → Writes (array (map f (tabulate n g))) at T r U
-unfolding array tabulate
-listing_none f n g e p = rw e p
+map-tabulate : {A B : Type 0} (f : A → B) (n : ℕ) (g : ℕ → A) → map f (tabulate n g) ≡ tabulate n (λ i. f (g i))
+unfolding tabulate
+map-tabulate f zero g = refl
+map-tabulate f (suc n) g = ap (λ (l : List _). f (g 0) ∷ l) (map-tabulate f n (λ i. g (suc i)))
 
-module _ {A : Type 0} {f : A → List ℕ} {n : ℕ} {g : ℕ → A} {at : ℕ} {T : List ℕ} where
-  pub listing_first : Listing f n g at T 1 at T
-  listing_first = record { size = refl; rest = λ r. r }
+module _ (f : ℕ → List ℕ) {a : Writer} where
+  pub begun_none : Writes (begun 0 f) a a
+  unfolding begun
+  begun_none = nothing
 
-  pub listing_more : {i a b c : ℕ} {U W Z : List ℕ} → Listing f n g at T i a U → i < n → length Z ≡ length U → Writes (44 ∷ []) a U b W → Writes (f (g i)) b W c Z → Listing f n g at T (i + 1) c Z
-  unfolding following
-  listing_more {i} l h e p q =
-      record { size = e ∙ l.size; rest = λ r. l.rest (rw (left_some n g i h) (both p (both q r))) }
+  pub begun_first : {i : ℕ} {b b' c : Writer} → i ≤ 0 → Writes (begun i f) a b → b' ≡ b → Writes (f i) b' c → Writes (begun (i + 1) f) a c
+  unfolding begun
+  begun_first {i = zero} {c = c} h p e q = both p (subst (λ (w : Writer). Writes (f 0) w c) e q)
+  begun_first {i = suc i} h p e q = absurd (omega arith)
 
-  pub listing_end : {m i a b c r : ℕ} {S R U W : List ℕ} → n ≡ m → 0 < n → n ≤ i → Writes (91 ∷ []) a S b R → Writes (f (g 0)) b R at T → Listing f n g at T i c U → Writes (93 ∷ []) c U r W → Writes (array (map f (tabulate m g))) a S r W
-  unfolding following array
-  listing_end {i = i} e h k o p l q =
-      same_text (ap (λ (v : List A). array (map f v)) (sym (left_some n g 0 h)) ∙ ap (λ (v : ℕ). array (map f (tabulate v g))) e) (both o (both p (l.rest (rw (left_none n g i k) q))))
+  pub begun_next : {i : ℕ} {b b' b'' c : Writer} → 0 < i → Writes (begun i f) a b → Writes (44 ∷ []) b b'' → b' ≡ b'' → Writes (f i) b' c → Writes (begun (i + 1) f) a c
+  unfolding begun
+  begun_next {i = zero} h p s e q = absurd (omega arith)
+  begun_next {i = suc i} {c = c} h p s e q = rw add-one (both p (both s (subst (λ (w : Writer). Writes (f (suc i)) w c) e q)))
+
+pub begun_all : {A : Type 0} (f : A → List ℕ) (n : ℕ) (g : ℕ → A) {i : ℕ} {s a b c : Writer} → Writes (91 ∷ []) s a → Writes (begun i (λ j. f (g j))) a b → Writes (93 ∷ []) b c → i ≡ n → Writes (array (map f (tabulate n g))) s c
+begun_all f n g p q r e = same_text (array_is n (λ j. f (g j)) ∙ sym (ap array (map-tabulate f n g))) (both p (both (rw (← e) q) r))

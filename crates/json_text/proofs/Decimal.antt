@@ -1,16 +1,15 @@
--- A number's decimal digits, one at a time from the last. Assumes nothing.
+-- A number's decimal digits: how many there are, and the last one. Assumes nothing.
 use mathlib.Core.Path.{◌≡◌, refl, sym, ap, ap₂, ◌∙◌}
 use mathlib.Core.Bool.{Bool, cond}
-use mathlib.Core.List.{List, [], ◌∷◌, ◌++◌, append_assoc, append-nil}
+use mathlib.Core.List.{[], ◌∷◌, ◌++◌}
 use Prim.Native.Nat.{ℕ, zero, suc, ◌+◌, ◌-◌, ◌*◌, ◌/◌, ◌%◌, ◌^◌, ◌≤◌, ◌<◌}
 use native.Mathlib.Nat.{add-zero, add-suc, suc-add, pow-suc, one-le-pow, le-div_iff_mul-le, div-lt_iff_lt-mul}
-use native.Mathlib.Numerals.{add-one}
 use native.Mathlib.Decide.{dec_le}
 use native.Mathlib.Omega.{arith}
 use lib.Dec.{leb}
-use lib.ListN.{length, take, drop, set, length-set, length-drop, drop_of_length-le}
-use lib.Seq.{take_all, drop-cons, drop-set-lt, get_or-set_same}
 use borrow.Author.Tests.{le-leb, lt-leb}
+use Rattle.std.proofs.lemmas.Fmt.{decimal_digit, decimal_step}
+use Rattle.std.specs.Fmt.{decimal as printed}
 use Rattle.json_text.specs.Json.{digits, powers, decimal}
 
 -- ---- how many digits
@@ -76,40 +75,14 @@ pub fewest : (k n : ℕ) → 10 ^ k ≤ n → n < 10 ^ suc k → decimal n ≡ d
 unfolding decimal
 fewest k n h l = ap (λ (m : ℕ). digits (suc m) n) (places k n h l)
 
--- ---- the digits from place i + 1 on are written, and what is left stands before them
-pub record Spelling (n i rest : ℕ) (D : List ℕ) : Type 0 where
-  pub so_far : decimal n ≡ decimal rest ++ drop (i + 1) D
-  pub few : rest < 10 ^ (i + 1)
-  pub place : i < 20
-  pub size : length D ≡ 20
+-- ---- they are what `{}` prints
+as_printed : (m n : ℕ) → n < m → n < 2 ^ 64 → decimal n ≡ printed n
+as_printed zero n h l = absurd (omega arith)
+as_printed (suc m) n h l =
+    elim (dec_le 10 n) [
+      | yes k ↦ rw (decimal_more n k, decimal_step n k l, as_printed m (n / 10) (omega arith) (omega arith))
+      | no k ↦ decimal_one n (omega arith) ∙ sym (decimal_digit n (omega arith))
+    ]
 
-drop_set : (D : List ℕ) (i d : ℕ) → i < length D → drop i (set D i d) ≡ d ∷ drop (i + 1) D
-drop_set D i d h =
-    rw (drop-cons (set D i d) i 0 (rw length-set h), get_or-set_same D i d 0 h, drop-set-lt (suc i) D i d (omega arith), add-one)
-
-module _ {n : ℕ} {D : List ℕ} where
-  pub spelling_none : n < 2 ^ 64 → length D ≡ 20 → Spelling n 19 n D
-  spelling_none h e = record { so_far = rw (drop_of_length-le D {i = 20} (omega arith), append-nil); few = omega arith; place = omega arith; size = e }
-
-  pub spelling_some : {i rest : ℕ} → Spelling n i rest D → 10 ≤ rest → 1 ≤ i
-  spelling_some {i} {rest} p h = go i p.few
-    where
-      go : (k : ℕ) → rest < 10 ^ (k + 1) → 1 ≤ k
-      go zero f = absurd (omega (arith, f))
-      go (suc k) f = omega arith
-
-  pub spelling_more : {i rest : ℕ} → Spelling n i rest D → 10 ≤ rest → Spelling n (i - 1) (rest / 10) (set D i (48 + rest % 10))
-  spelling_more {i} {rest} p h =
-      let e : i - 1 + 1 ≡ i = omega (arith, spelling_some p h) in
-      let few : rest < 10 ^ i * 10 = rw (add-one, pow-suc) at p.few in
-      record {
-        so_far = rw (e, drop_set D i (48 + rest % 10) (omega arith)) (p.so_far ∙ rw (decimal_more rest h, append_assoc));
-        few = rw e ((div-lt_iff_lt-mul {k = 10} (omega arith)).1 few);
-        place = omega arith;
-        size = length-set D i (48 + rest % 10) ∙ p.size;
-      }
-
-  pub spelling_end : {i rest : ℕ} → Spelling n i rest D → rest < 10 → (i ≤ 20) × (take (20 - i) (drop i (set D i (48 + rest))) ≡ decimal n)
-  spelling_end {i} {rest} p h =
-      let e = drop_set D i (48 + rest) (omega arith) in
-      (omega arith, take_all (20 - i) _ (omega (arith, length-drop i (set D i (48 + rest)), length-set D i (48 + rest))) ∙ e ∙ sym (p.so_far ∙ rw (decimal_one rest h)))
+pub decimal_printed : (n : ℕ) → n < 2 ^ 64 → printed n ≡ decimal n
+decimal_printed n h = sym (as_printed (suc n) n (omega arith) h)

@@ -1,7 +1,8 @@
 pub mod Decimal
 pub mod Writing
+pub mod Finishing
 pub mod Arrays
-pub mod Names
+pub mod KindNames
 pub mod Fields
 pub mod Values
 pub mod Examples

@@ -1,66 +1,52 @@
 -- A text that is written piece by piece. Assumes nothing.
 use mathlib.Core.Path.{◌≡◌, refl, sym, ap, subst, ◌∙◌}
 use mathlib.Core.List.{List, [], ◌++◌, append_assoc, append-nil}
-use Prim.Native.Nat.{ℕ, ◌+◌, ◌-◌, ◌≤◌, ◌<◌}
-use native.Mathlib.Numerals.{add-one}
+use Prim.Native.Nat.{ℕ, ◌≤◌}
 use native.Mathlib.Omega.{arith}
-use lib.ListN.{length, take, get_or, set, length-append, length-take, length-set}
-use lib.Seq.{take-length, paste, paste-zero, paste-suc, length-paste, take-paste}
+use lib.ListN.{length, take, length-append}
+use lib.Seq.{length-take-le, take-append_seam}
+use Rattle.std.proofs.Common.{Option, Some, None, MatchOption}
+use Rattle.json_text.specs.Copied.{Copied, PastEnd}
 use Rattle.json_text.specs.Writes.{Holds, held, full, Writes}
+use Rattle.json_text.specs.declared.writer.Writer.{Writer}
 
 -- ---- a piece
-full_on : (t w : List ℕ) {T : List ℕ} {at : ℕ} → length T < at → Holds t at T → Holds (t ++ w) at T
-full_on t w h (held k e) = absurd (omega arith)
-full_on t w h (full k l) = full (omega (arith, length-append t w)) h
+abbrev Copies : ℕ → List ℕ → List ℕ → List ℕ → Option ℕ → Type 0
+Copies at w T U r = MatchOption r (PastEnd T at w × (U ≡ T)) (λ end. Copied at w end T U)
 
-room_on : (t w : List ℕ) {T : List ℕ} {at : ℕ} → at ≤ length T → length T - at < length w → Holds t at T → Holds (t ++ w) (length T + 1) T
-room_on t w {T} {at} h k (held l e) = full (omega (arith, length-append t w, ap length e, length-take at T)) (omega arith)
-room_on t w h k (full l m) = absurd (omega arith)
+copied_on : (t w T U : List ℕ) (at : ℕ) (r : Option ℕ) → Copies at w T U r → length U ≡ length T → at ≤ length T → take at T ≡ t → Holds (t ++ w) U r
+copied_on t w T U at None p s h e = full (omega (arith, p.0, length-append t w, ap length e, length-take-le at T h))
+copied_on t w T U at (Some end) p s h e =
+    let n : end ≡ length (take at T ++ w) = omega (arith, p.end_is, length-append (take at T) w, length-take-le at T h) in
+    held (omega (arith, p.room)) (ap (take end) p.bytes ∙ rw (n, take-append_seam, e))
 
-module _ {w T : List ℕ} {at : ℕ} where
-  pub put_full : length T < at → Writes w at T at T
-  put_full h = record { on = λ t p. full_on t w h p }
+put_on : (t w T U : List ℕ) (at : ℕ) (end r : Option ℕ) → end ≡ Some at → Copies at w T U r → length U ≡ length T → Holds t T end → Holds (t ++ w) U r
+put_on t w T U at (Some n) r e p s (held h k) = let q : n ≡ at = cc in copied_on t w T U at r p s (rw (← q) h) (rw (← q) k)
+put_on t w T U at None r e p s (full h) = absurd (cc)
 
-  pub put_room : at ≤ length T → length T - at < length w → Writes w at T (length T + 1) T
-  put_room h k = record { on = λ t p. room_on t w h k p }
+full_on : (t w T : List ℕ) (end : Option ℕ) → end ≡ None → Holds t T end → Holds (t ++ w) T end
+full_on t w T (Some n) e (held h k) = absurd (cc)
+full_on t w T None e (full h) = full (omega (arith, length-append t w))
 
--- i bytes of w are copied
-pub record Copying (w T : List ℕ) (at i : ℕ) (U : List ℕ) : Type 0 where
-  pub so_far : U ≡ paste T at w i
-  pub within : i ≤ length w
-  pub room : at + length w ≤ length T
-  pub size : length U ≡ length T
+module _ {w : List ℕ} {old new : Writer} where
+  pub put_some : {at : ℕ} → old.end ≡ Some at → MatchOption new.end (PastEnd old.out.now at w × (new.out.now ≡ old.out.now)) (λ end. Copied at w end old.out.now new.out.now)
+      → new.out.ghost_name ≡ old.out.ghost_name → length new.out.now ≡ length old.out.now → Writes w old new
+  put_some {at} e p n s = record { same = n; size = s; on = λ t h. put_on t w old.out.now new.out.now at old.end new.end e p s h }
 
-copied_on : (t w : List ℕ) {T U : List ℕ} {at : ℕ} → at + length w ≤ length T → U ≡ paste T at w (length w) → Holds t at T → Holds (t ++ w) (at + length w) U
-copied_on t w {T} {U} {at} h e (held k f) =
-    held (omega (arith, ap length e, length-paste T at w (length w) h (omega arith)))
-    (ap (take (at + length w)) e ∙ take-paste T at w (length w) k (omega arith) ∙ rw (f, take-length w))
-copied_on t w h e (full k l) = absurd (omega arith)
-
-module _ {w T : List ℕ} {at : ℕ} where
-  pub copying_none : at ≤ length T → length w ≤ length T - at → Copying w T at 0 T
-  copying_none h k = record { so_far = paste-zero T at w; within = omega arith; room = omega arith; size = refl }
-
-  pub copying_more : {i : ℕ} {U : List ℕ} → Copying w T at i U → i < length w → Copying w T at (i + 1) (set U (at + i) (get_or w i 0))
-  copying_more {i} {U} p h =
-      record {
-        so_far = ap (λ (l : List ℕ). set l (at + i) (get_or w i 0)) p.so_far ∙ paste-suc T at w i 0 (omega arith) h ∙ ap (paste T at w) (sym (add-one i));
-        within = omega arith;
-        room = p.room;
-        size = length-set U (at + i) (get_or w i 0) ∙ p.size;
-      }
-
-  pub copying_end : {i : ℕ} {U : List ℕ} → Copying w T at i U → length w ≤ i → Writes w at T (at + length w) U
-  copying_end {i} {U} p h =
-      let e : i ≡ length w = omega arith in
-      record { on = λ t q. copied_on t w p.room (p.so_far ∙ ap (paste T at w) e) q }
+pub put_none : {w : List ℕ} {old : Writer} → old.end ≡ None → Writes w old old
+put_none {w} {old} e = record { same = refl; size = refl; on = λ t h. full_on t w old.out.now old.end e h }
 
 -- ---- pieces
-pub both : {w v T U W : List ℕ} {at r s : ℕ} → Writes w at T r U → Writes v r U s W → Writes (w ++ v) at T s W
-both {w} {v} {W = W} {s = s} p q = record { on = λ t h. subst (λ (l : List ℕ). Holds l s W) (append_assoc t w v) (q.on (t ++ w) (p.on t h)) }
+pub both : {w v : List ℕ} {a b c : Writer} → Writes w a b → Writes v b c → Writes (w ++ v) a c
+both {w} {v} {c = c} p q =
+    record {
+      same = q.same ∙ p.same;
+      size = q.size ∙ p.size;
+      on = λ t h. subst (λ (l : List ℕ). Holds l c.out.now c.end) (append_assoc t w v) (q.on (t ++ w) (p.on t h));
+    }
 
-pub same_text : {w v T U : List ℕ} {at r : ℕ} → w ≡ v → Writes w at T r U → Writes v at T r U
-same_text {T = T} {U = U} {at} {r} e p = subst (λ (l : List ℕ). Writes l at T r U) e p
+pub same_text : {w v : List ℕ} {a b : Writer} → w ≡ v → Writes w a b → Writes v a b
+same_text {a = a} {b} e p = subst (λ (l : List ℕ). Writes l a b) e p
 
-pub nothing : {T : List ℕ} {at : ℕ} → Writes [] at T at T
-nothing {T} {at} = record { on = λ t h. subst (λ (l : List ℕ). Holds l at T) (sym (append-nil t)) h }
+pub nothing : {a : Writer} → Writes [] a a
+nothing {a} = record { same = refl; size = refl; on = λ t h. subst (λ (l : List ℕ). Holds l a.out.now a.end) (sym (append-nil t)) h }

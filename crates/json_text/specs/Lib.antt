@@ -1,2 +1,4 @@
 pub mod Json
+pub mod Copied
 pub mod Writes
+pub mod Names

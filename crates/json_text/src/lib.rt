@@ -1,8 +1,9 @@
 // The JSON of nodes and of diagnostics, written piece by piece.
 #![tactic(auto)]
 
+mod names;
 mod rows;
 mod writer;
 
-pub use rows::{diagnostic_rows, node_rows};
-pub use writer::{put, put_number};
+pub use rows::Row;
+pub use writer::Writer;

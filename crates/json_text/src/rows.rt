@@ -1,130 +1,105 @@
 // The rows of nodes and of diagnostics.
-ghost use Rattle.std.specs.Prelude.{◌≡◌, ◌∷◌};
-ghost use Rattle.tables.specs.Tables.{node_at, nodes_of, diagnostic_at, diagnostics_of};
-ghost use Rattle.json_text.specs.Json.{decimal, kind_name, value_text, sixth, row, listing, diagnostic_row, diagnostic_rows};
-ghost use Rattle.json_text.specs.Writes.{Writes, added, name_table};
+ghost use Rattle.std.specs.Prelude.{◌≡◌, ◌∷◌, List, ℕ, ◌/◌, length, map};
+ghost use Rattle.patterns.specs.Bytes.{within};
+ghost use Rattle.tables.specs.Tables.{entry_at, tabulate};
+ghost use Rattle.json_text.specs.Json.{decimal, value_text, sixth, array, row, diagnostic_row};
+ghost use Rattle.json_text.specs.Writes.{Writes, added};
 
-use super::writer::{put, put_number};
+use crate::names::name_of;
+use crate::writer::Writer;
+use tables::{Diagnostic, Entry, Node};
 
-// Nothing for a kind that is not in the table.
-fn put_name(names: &[u8], kind: u8, out: &mut [u8], at: usize) -> usize
-    requires { names.now ≡ name_table }
-    ensures { Writes (kind_name kind) at out.old result out.new }
-{
-    if kind > 42 {
-        return at;
-    }
-    let a = (kind as usize) * 14;
-    let n = names[a] as usize;
-    let from = a + 1;
-    let to = from + n;
-    put(out, at, &names[from..to])
+// The last before 64-bit floats skip numbers.
+const MAX_SAFE_INTEGER: u64 = 9007199254740991;
+
+// An entry that is listed as a row.
+pub trait Row: Entry {
+    ghost text: { Self → List ℕ };
+
+    // Writes the row of entry i.
+    fn write(table: &[u8], i: usize, writer: &mut Writer<'_>)
+        ensures { Writes (text (Self.decode (entry_at Self.SIZE table.now i))) writer.old writer.new };
 }
 
-// Past 2^53 - 1, where 64-bit floats skip numbers, a string.
-#[tactic(auto, using(crate::proofs::Fields::value_number))]
-fn put_value(out: &mut [u8], at: usize, value: u64) -> usize
-    ensures { Writes (value_text value) at out.old result out.new }
-{
-    if value <= 9007199254740991 {
-        return put_number(out, at, value);
+impl Row for Node {
+    ghost text = { row };
+
+    fn write(table: &[u8], i: usize, writer: &mut Writer<'_>) {
+        let node = Node::at(table, i);
+        writer.put(b"[\"");
+        writer.put(name_of(node.kind));
+        writer.put(b"\"");
+        writer.next(node.start as u64);
+        writer.next(node.end as u64);
+        writer.next(node.children as u64);
+        writer.put(b",");
+        writer.value(node.value);
+        writer.base(node.kind, node.base);
+        writer.put(b"]");
     }
-    let mut next = put(out, at, b"\"");
-    next = put_number(out, next, value);
-    put(out, next, b"\"")
 }
 
-// A comma and a number.
-fn put_next(out: &mut [u8], at: usize, n: u64) -> usize
-    ensures { Writes (44 ∷ decimal n) at out.old result out.new }
-{
-    let next = put(out, at, b",");
-    put_number(out, next, n)
+impl Row for Diagnostic {
+    ghost text = { diagnostic_row };
+
+    fn write(table: &[u8], i: usize, writer: &mut Writer<'_>) {
+        let diagnostic = Diagnostic::at(table, i);
+        writer.put(b"[");
+        writer.number(diagnostic.start as u64);
+        writer.next(diagnostic.end as u64);
+        writer.next(diagnostic.reason as u64);
+        writer.put(b"]");
+    }
 }
 
-// The base, on Count and the three literals alone.
-#[tactic(auto, using(crate::proofs::Fields::sixth_low, crate::proofs::Fields::sixth_high, crate::proofs::Fields::sixth_base))]
-fn put_base(out: &mut [u8], at: usize, kind: u8, base: u8) -> usize
-    ensures { Writes (added (sixth kind base)) at out.old result out.new }
+// On Count and the three literals alone.
+fn has_base(kind: u8) -> bool
+    ensures { result ≡ within 6 9 kind }
 {
-    if kind < 6 {
-        return at;
-    }
-    if kind > 9 {
-        return at;
-    }
-    put_next(out, at, base as u64)
+    (6..=9).contains(&kind)
 }
 
-fn node_row(names: &[u8], nodes: &[u8], i: usize, out: &mut [u8], at: usize) -> usize
-    requires { names.now ≡ name_table }
-    ensures { Writes (row (node_at nodes.now i)) at out.old result out.new }
-{
-    let kind = node::kind(nodes, i);
-    let mut next = put(out, at, b"[\"");
-    next = put_name(names, kind, out, next);
-    next = put(out, next, b"\"");
-    next = put_next(out, next, node::start(nodes, i) as u64);
-    next = put_next(out, next, node::end(nodes, i) as u64);
-    next = put_next(out, next, node::children(nodes, i) as u64);
-    next = put(out, next, b",");
-    next = put_value(out, next, node::value(nodes, i));
-    next = put_base(out, next, kind, node::base(nodes, i));
-    put(out, next, b"]")
-}
+impl Writer<'_> {
+    // The rows of all entries of a table, in an array.
+    pub fn rows<R: Row>(&mut self, table: &[u8])
+        ensures { Writes (array (map R.text (tabulate (length table.now / R.SIZE) (λ i. R.decode (entry_at R.SIZE table.now i))))) self.old self.new }
+    {
+        self.put(b"[");
+        for i in 0..R::room(table) {
+            if i > 0 {
+                self.put(b",");
+            }
+            R::write(table, i, self);
+        }
+        self.put(b"]");
+    }
 
-pub fn node_rows(nodes: &[u8], out: &mut [u8], at: usize) -> usize
-    ensures { Writes (listing (nodes_of nodes.now)) at out.old result out.new }
-{
-    let n = node::room(nodes);
-    if n == 0 {
-        return put(out, at, b"[]");
+    // A comma and a number.
+    fn next(&mut self, n: u64)
+        ensures { Writes (44 ∷ decimal n) self.old self.new }
+    {
+        self.put(b",");
+        self.number(n);
     }
-    // The names of the kinds from 0 on, in 14 bytes each, its length first.
-    let names =
-        b"\x00.............\x04Name.........\x05Named........\x07Pointer......\x09TypeTuple....\x0aFixedArray...\
-          \x05Count........\x07Literal......\x0bLiteralFelt..\x0aLiteralU32...\x04Bool.........\x0aIdentifier...\
-          \x05Unary........\x06Binary.......\x04Call.........\x06Member.......\x05Index........\x0dStructLiteral\
-          \x05Tuple........\x0aTupleIndex...\x05Array........\x0bArrayRepeat..\x04Cast.........\x03New..........\
-          \x05Paren........\x0cPatternTuple.\x03Let..........\x05Const........\x06Assign.......\x06Return.......\
-          \x02If...........\x08ExprStmt.....\x05Block........\x04Loop.........\x05While........\x03For..........\
-          \x05Break........\x08Continue.....\x05Param........\x08Function.....\x09StructDef....\x09UseSingle....\
-          \x07UseList......";
-    let mut next = put(out, at, b"[");
-    next = node_row(names, nodes, 0, out, next);
-    let mut i = 1;
-    while i < n {
-        next = put(out, next, b",");
-        next = node_row(names, nodes, i, out, next);
-        i += 1;
-    }
-    put(out, next, b"]")
-}
 
-fn diagnostic_row(diagnostics: &[u8], i: usize, out: &mut [u8], at: usize) -> usize
-    ensures { Writes (diagnostic_row (diagnostic_at diagnostics.now i)) at out.old result out.new }
-{
-    let mut next = put(out, at, b"[");
-    next = put_number(out, next, diagnostic::start(diagnostics, i) as u64);
-    next = put_next(out, next, diagnostic::end(diagnostics, i) as u64);
-    next = put_next(out, next, diagnostic::reason(diagnostics, i) as u64);
-    put(out, next, b"]")
-}
+    // The base, where there is one.
+    fn base(&mut self, kind: u8, base: u8)
+        ensures { Writes (added (sixth kind base)) self.old self.new }
+    {
+        if has_base(kind) {
+            self.next(base as u64);
+        }
+    }
 
-pub fn diagnostic_rows(diagnostics: &[u8], out: &mut [u8], at: usize) -> usize
-    ensures { Writes (diagnostic_rows (diagnostics_of diagnostics.now)) at out.old result out.new }
-{
-    let n = diagnostic::room(diagnostics);
-    if n == 0 {
-        return put(out, at, b"[]");
+    // A number that a float may miss is a string.
+    fn value(&mut self, value: u64)
+        ensures { Writes (value_text value) self.old self.new }
+    {
+        if value <= MAX_SAFE_INTEGER {
+            return self.number(value);
+        }
+        self.put(b"\"");
+        self.number(value);
+        self.put(b"\"");
     }
-    let mut next = put(out, at, b"[");
-    next = diagnostic_row(diagnostics, 0, out, next);
-    let mut i = 1;
-    while i < n {
-        next = put(out, next, b",");
-        next = diagnostic_row(diagnostics, i, out, next);
-        i += 1;
-    }
-    put(out, next, b"]")
 }

@@ -1,46 +1,62 @@
-// A text written piece by piece; a place past the end of out says that it did not fit.
-ghost use Rattle.std.specs.Prelude.{◌≡◌, ◌-◌, ◌≤◌, length, take, drop};
+// A text written piece by piece into lent bytes.
+ghost use Rattle.std.specs.Prelude.{◌≡◌, ◌≤◌, length, unwrap_or, MatchOption};
 ghost use Rattle.json_text.specs.Json.{decimal};
-ghost use Rattle.json_text.specs.Writes.{Writes};
+ghost use Rattle.json_text.specs.Copied.{Copied, PastEnd};
 
-// Writes all of w, or nothing.
-pub fn put(out: &mut [u8], at: usize, w: &[u8]) -> usize
-    ensures { Writes w.now at out.old result out.new }
-{
-    if out.len() < at {
-        return at;
+use itoa::Buffer;
+
+// The end of the text so far; none once a piece did not fit.
+#[derive(Drop)]
+pub struct Writer<'a> {
+    out: &'a mut [u8],
+    end: Option<usize>,
+    ghost within: { unwrap_or end 0 ≤ length out.now },
+}
+
+impl<'a> Writer<'a> {
+    ghost use Rattle.json_text.specs.Writes.{Begins, Writes, Finishes};
+
+    pub fn new(out: &'a mut [u8]) -> Writer<'a>
+        ensures { Begins out.entry result }
+    {
+        Writer { out, end: Some(0) }
     }
+
+    // Writes all of w, or nothing.
+    pub fn put(&mut self, w: &[u8])
+        ensures { Writes w.now self.old self.new }
+    {
+        if let Some(at) = self.end {
+            self.end = copied(self.out, at, w);
+        }
+    }
+
+    // The text's length, if it fitted; what is not of it is cleared.
+    pub fn finish(self) -> Option<usize>
+        ensures { Finishes self.entry self.exit.0.now result }
+    {
+        let Writer { out, end } = self;
+        out[end.unwrap_or(0)..].fill(0);
+        end
+    }
+
+    pub fn number(&mut self, n: u64)
+        ensures { Writes (decimal n) self.old self.new }
+    {
+        let mut digits = Buffer::new();
+        self.put(digits.format(n).as_bytes());
+    }
+}
+
+// Copies w to this place; the end of it, none if there is no room for it.
+fn copied(out: &mut [u8], at: usize, w: &[u8]) -> Option<usize>
+    requires { at ≤ length out.old }
+    ensures { MatchOption result (PastEnd out.old at w.now × (out.new ≡ out.old)) (λ end. Copied at w.now end out.old out.new) }
+{
     if out.len() - at < w.len() {
-        return out.len() + 1;
+        return None;
     }
-    let mut i = 0;
-    while i < w.len() {
-        out[at + i] = w[i];
-        i += 1;
-    }
-    at + w.len()
-}
-
-// The decimal digits of n, from the place answered to the end.
-fn spell(n: u64, digits: &mut [u8]) -> usize
-    requires { length digits.old ≡ 20 }
-    ensures { (result ≤ 20) × (take (20 - result) (drop result digits.new) ≡ decimal n) }
-{
-    let mut i = 19;
-    let mut rest = n;
-    while rest >= 10 {
-        digits[i] = 48 + (rest % 10) as u8;
-        rest /= 10;
-        i -= 1;
-    }
-    digits[i] = 48 + rest as u8;
-    i
-}
-
-pub fn put_number(out: &mut [u8], at: usize, n: u64) -> usize
-    ensures { Writes (decimal n) at out.old result out.new }
-{
-    let mut digits = [0u8; 20];
-    let i = spell(n, &mut digits);
-    put(out, at, &digits[i..])
+    let end = at + w.len();
+    out[at..end].copy_from_slice(w);
+    Some(end)
 }

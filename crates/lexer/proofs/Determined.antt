@@ -1,6 +1,7 @@
 -- A text has one list of tokens and one of errors, and lexing one answer. Assumes nothing.
 use mathlib.Core.Path.{◌≡◌, refl, sym, ap, ap₂, subst, ◌∙◌}
 use mathlib.Core.List.{List}
+use Rattle.std.specs.Prelude.{Result, Ok}
 use Prim.Native.Nat.{ℕ, ◌+◌, ◌≤◌}
 use native.Mathlib.Omega.{arith}
 use lib.ListN.{length, take, drop, length-take}
@@ -9,9 +10,11 @@ use Rattle.utf8.proofs.Laws.{begins_some, begins_size}
 use Rattle.numeral.specs.Numeral.{numeral_of}
 use Rattle.lexer.specs.Tokens.{Best, Spells}
 use Rattle.lexer.specs.Lexes.{Item, item_of, Step, matched, strange, Lexes, done, step}
-use Rattle.lexer.specs.Answers.{Result, lexed, ResultIs, too_long, not_utf8, lexes, lexed_of, tokens_of, diagnostics_of, LexedIs, answer_of, tokens_after, AnswerIs}
+use Rattle.lexer.specs.Answers.{Lexemes, lexed, ResultIs, too_long, not_utf8, lexes, lexed_of, tokens_of, diagnostics_of, LexedIs, answer_of, tokens_after, AnswerIs}
 use Rattle.lexer.specs.declared.lexing.Lexed.{Lexed}
-use Rattle.lexer.specs.declared.entry.Answer.{Answer}
+use Rattle.lexer.specs.declared.lexing.TextError.{TextError}
+use Rattle.lexer.specs.declared.entry.LexedAlone.{LexedAlone}
+use Rattle.lexer.specs.declared.entry.LexError.{LexError}
 use Rattle.lexer.proofs.Leads.{spells_some}
 
 -- the longest match is one, and so is a step
@@ -43,7 +46,7 @@ lexes_one {at} {s} (step {ts = us} {ds = gs} n i st l) (step {ts = us'} {ds = gs
     (cc, cc)
 
 -- ---- a text is one thing to the lexer, so its answers are one
-result_one : {text : List ℕ} {x y : Result} → ResultIs text x → ResultIs text y → x ≡ y
+result_one : {text : List ℕ} {x y : Result Lexemes TextError} → ResultIs text x → ResultIs text y → x ≡ y
 result_one (too_long h) (too_long k) = refl
 result_one (too_long h) (not_utf8 k u) = absurd (omega arith)
 result_one (too_long h) (lexes k u l) = absurd (omega arith)
@@ -52,15 +55,15 @@ result_one (not_utf8 h u) (not_utf8 k v) = refl
 result_one (not_utf8 h u) (lexes k v l) = absurd (u v)
 result_one (lexes h u l) (too_long k) = absurd (omega arith)
 result_one (lexes h u l) (not_utf8 k v) = absurd (v u)
-result_one (lexes h u l) (lexes k v m) = let e = lexes_one l m in ap₂ lexed e.0 e.1
+result_one (lexes h u l) (lexes k v m) = let e = lexes_one l m in ap₂ (λ (ts : List Token) (ds : List Diagnostic). Ok (lexed ts ds)) e.0 e.1
 
 module _ {text : List ℕ} {n m : ℕ} {a b a' b' : List ℕ} where
-  pub lexed_one : {r r' : Lexed} → LexedIs text n m a b r → LexedIs text n m a' b' r' → (r ≡ r') × (a ≡ a') × (b ≡ b')
+  pub lexed_one : {r r' : Result Lexed TextError} → LexedIs text n m a b r → LexedIs text n m a' b' r' → (r ≡ r') × (a ≡ a') × (b ≡ b')
   lexed_one p q =
       let e = result_one p.is q.is in
       (p.answer ∙ ap lexed_of e ∙ sym q.answer, p.tokens ∙ ap (tokens_of n) e ∙ sym q.tokens, p.diagnostics ∙ ap (diagnostics_of m) e ∙ sym q.diagnostics)
 
-  pub answer_one : {r r' : Answer} → AnswerIs text n m a b r → AnswerIs text n m a' b' r' → (r ≡ r') × (a ≡ a') × (b ≡ b')
+  pub answer_one : {r r' : Result LexedAlone LexError} → AnswerIs text n m a b r → AnswerIs text n m a' b' r' → (r ≡ r') × (a ≡ a') × (b ≡ b')
   answer_one p q =
       let e = result_one p.is q.is in
       let f = p.answer ∙ ap (answer_of n) e ∙ sym q.answer in

@@ -1,7 +1,8 @@
 -- One step through a text, and how far the way has come: the loop's invariant and its turns. Assumes nothing.
 use mathlib.Core.Path.{◌≡◌, refl, sym, ap, ap₂, subst, ◌∙◌}
-use mathlib.Core.Bool.{Bool, true, false, cond, ◌&&◌}
+use mathlib.Core.Bool.{Bool, true, false, cond, ◌&&◌, false≢true}
 use mathlib.Core.List.{List, [], ◌∷◌, ◌++◌, append_assoc, append-nil}
+use Rattle.std.specs.Prelude.{Result, Ok, Err, IsErr, IsErrAnd, IfErr, is_err}
 use Prim.Native.Nat.{ℕ, zero, suc, ◌+◌, ◌≤◌, ◌<◌, zero-le}
 use native.Mathlib.Numerals.{add-one}
 use native.Mathlib.Omega.{arith}
@@ -18,14 +19,25 @@ use Rattle.utf8.specs.Utf8.{Rest}
 use Rattle.utf8.proofs.Laws.{begins_some, rest_none, rest_char, rest_more, rest_end, next_ascii}
 use Rattle.numeral.specs.Numeral.{numeral_of}
 use Rattle.numeral.specs.declared.NumberLiteral.{NumberLiteral}
-use Rattle.lexer.specs.Classes.{class_of, Table}
+use Rattle.numeral.specs.declared.NumberParseError.{NumberParseError}
+use Rattle.lexer.specs.Classes.{class_of}
 use Rattle.lexer.specs.Lexes.{Item, skipped, token, item_of, Step, matched, strange, tokens, errors, Lexes, done, step}
-use Rattle.lexer.specs.Answers.{long, encoding, lexed, too_long, not_utf8, lexes, LexedIs, zeros}
-use Rattle.lexer.specs.Scans.{Scanned, Reaches, Stepped}
+use Rattle.lexer.specs.Answers.{lexed, ResultIs, too_long, not_utf8, lexes, LexedIs, zeros}
+use Rattle.lexer.specs.Scans.{Scanned, Reaches, Stepped, Refused}
 use Rattle.lexer.specs.declared.scan.Found.{Found}
 use Rattle.lexer.specs.declared.lexing.Item as declared
 use Rattle.lexer.specs.declared.lexing.Item.TheVariants as Item
-use Rattle.lexer.specs.declared.lexing.Lexed.TheVariants as Lexed
+use Rattle.lexer.specs.declared.lexing.Lexed.{Lexed}
+use Rattle.lexer.specs.declared.lexing.TextError.{TextError}
+use Rattle.lexer.specs.declared.scan.NotUtf8.{NotUtf8}
+use denote.Enum.Declared.{tag_of}
+use denote.Enum.Bare.{sameb}
+use mir.Val.{bool_byte}
+use Rattle.tables.specs.contracts.entry_codes.Reason.{the_type}
+use Rattle.tables.specs.contracts.entry_codes.Suffix.{the_type as suffixes}
+use Rattle.tables.specs.declared.entry_codes.Suffix.{Suffix}
+use Rattle.tables.specs.Codes.{suffix_code, reason_code}
+use Rattle.tables.specs.declared.entry_codes.Reason.{Reason}
 use Rattle.lexer.proofs.Leads.{best_white}
 use Rattle.lexer.proofs.Determined.{step_some, step_one}
 use Rattle.lexer.proofs.Scans.{run_first, white_ascii, class_white}
@@ -36,69 +48,71 @@ size_of (Found.Skip n) = n
 size_of (Found.Token k n) = n
 size_of (Found.Number n) = n
 size_of (Found.Strange n) = n
-size_of Found.NotUtf8 = 0
 
-size_within : {s : List ℕ} {f : Found} → Scanned s f → size_of f ≤ length s
-size_within (Scanned.skip b r) = b.within
-size_within (Scanned.token h b r) = b.within
-size_within (Scanned.number b r) = b.within
-size_within (Scanned.strange t b) = (begins_some b).1
-size_within (Scanned.broken u) = zero-le
+size_within : {s : List ℕ} (f : Found) → Scanned s (Ok f) → size_of f ≤ length s
+size_within f (Scanned.skip b r) = b.within
+size_within f (Scanned.token h b r) = b.within
+size_within f (Scanned.number b r) = b.within
+size_within f (Scanned.strange t b) = (begins_some b).1
 
-pub end_within : (text : List ℕ) (at : ℕ) {s : List ℕ} {f : Found} → at ≤ length text → s ≡ drop at text → Scanned s f → (g : Found) → f ≡ g → at + size_of g ≤ length text
-end_within text at h e i g q = omega (arith, size_within i, ap size_of q, ap length e, length-drop at text)
+pub end_within : (text : List ℕ) (at : ℕ) {s : List ℕ} {f : Found} → at ≤ length text → s ≡ drop at text → Scanned s (Ok f) → (g : Found) → f ≡ g → at + size_of g ≤ length text
+end_within text at {s} {f} h e i g q = omega (arith, size_within f i, ap size_of q, ap length e, length-drop at text)
+
+-- what was found is f, here g
+found_at : {s : List ℕ} {f g : Found} → Scanned s (Ok f) → f ≡ g → Scanned s (Ok g)
+found_at {s} i q = subst (λ (f : Found). Scanned s (Ok f)) q i
 
 module _ {text s : List ℕ} {at : ℕ} (h : at ≤ length text) (e : s ≡ drop at text) where
-  reaches : {n : ℕ} {j : Item} → Step s n j → Rest s n → Reaches text at (at + n) j
+  reaches : {n : ℕ} {j : Item} → Step s n j → Rest s n → Reaches text at n j
   reaches {n} st r =
       let k = step_some st in
-      record { n = n; is = refl; past = omega (arith, k); inside = omega (arith, k, ap length e, length-drop at text); step = rw e at st; rest = rw e at r }
+      record { past = omega (arith, k); inside = omega (arith, k, ap length e, length-drop at text); step = rw e at st; rest = rw e at r }
 
-  module _ {f : Found} (i : Scanned s f) where
-    pub skip_step : {n : ℕ} → f ≡ Found.Skip n → Stepped text at (Item.Skipped (at + n))
-    skip_step {n} q = go (subst (Scanned s) q i)
+  pub skip_step : {f : Found} {n : ℕ} → Scanned s (Ok f) → f ≡ Found.Skip n → Stepped text at (Ok (Item.Skipped, n))
+  skip_step {f} {n} i q = go (found_at i q)
+    where
+      go : Scanned s (Ok (Found.Skip n)) → Stepped text at (Ok (Item.Skipped, n))
+      go (Scanned.skip b r) = Stepped.skipped (reaches (matched 0 b refl) r)
+
+  pub token_step : {f : Found} {k n : ℕ} → Scanned s (Ok f) → f ≡ Found.Token k n → Stepped text at (Ok (Item.Token k, n))
+  token_step {f} {k} {n} i q = go (found_at i q)
+    where
+      plain : (k : ℕ) (a : Result NumberLiteral NumberParseError) → 2 ≤ k → token k 0 0 0 ≡ item_of k a
+      plain zero a h = absurd (omega arith)
+      plain (suc zero) a h = absurd (omega arith)
+      plain (suc (suc k)) a h = refl
+
+      go : Scanned s (Ok (Found.Token k n)) → Stepped text at (Ok (Item.Token k, n))
+      go (Scanned.token h b r) = Stepped.token (reaches (matched k b (plain k (numeral_of (take n s)) h)) r)
+
+  pub strange_step : {f : Found} {n : ℕ} → Scanned s (Ok f) → f ≡ Found.Strange n → Stepped text at (Ok (Item.Error Reason.Character, n))
+  strange_step {f} {n} i q = go (found_at i q)
+    where
+      go : Scanned s (Ok (Found.Strange n)) → Stepped text at (Ok (Item.Error Reason.Character, n))
+      go (Scanned.strange {c} t b) = Stepped.error (reaches (strange c t b refl) (rest_char b))
+
+  pub broken_step : {r : Result Found NotUtf8} {n : NotUtf8} → Scanned s r → r ≡ Err n → (x : Result (declared.Item × ℕ) NotUtf8) → IsErr x → Stepped text at x
+  broken_step {r} {n} i z x w = go (subst (Scanned s) z i) x w
+    where
+      go : Scanned s (Err n) → (x : Result (declared.Item × ℕ) NotUtf8) → IsErr x → Stepped text at x
+      go (Scanned.broken u) (Err f) w = Stepped.broken (rw e at u)
+      go (Scanned.broken u) (Ok f) w = absurd (false≢true w)
+
+  module _ {f : Found} {n : ℕ} (i : Scanned s (Ok f)) (p : f ≡ Found.Number n) {a : Result NumberLiteral NumberParseError} (q : a ≡ numeral_of (take n s)) where
+    number_step : (j : Item) → item_of 1 a ≡ j → Reaches text at n j
+    number_step j w = go (found_at i p)
       where
-        go : Scanned s (Found.Skip n) → Stepped text at (Item.Skipped (at + n))
-        go (Scanned.skip b r) = Stepped.skipped (reaches (matched 0 b refl) r)
+        go : Scanned s (Ok (Found.Number n)) → Reaches text at n j
+        go (Scanned.number b r) = reaches (matched 1 b (sym w ∙ ap (item_of 1) q)) r
 
-    pub token_step : {k n : ℕ} → f ≡ Found.Token k n → Stepped text at (Item.Token (at + n) k)
-    token_step {k} {n} q = go (subst (Scanned s) q i)
-      where
-        plain : (k : ℕ) (a : NumberLiteral) → 2 ≤ k → token k 0 0 0 ≡ item_of k a
-        plain zero a h = absurd (omega arith)
-        plain (suc zero) a h = absurd (omega arith)
-        plain (suc (suc k)) a h = refl
+    pub literal_step : {l : NumberLiteral} → a ≡ Ok l → Stepped text at (Ok (Item.Literal l, n))
+    literal_step w = Stepped.literal (number_step _ (ap (item_of 1) w))
 
-        go : Scanned s (Found.Token k n) → Stepped text at (Item.Token (at + n) k)
-        go (Scanned.token h b r) = Stepped.token (reaches (matched k b (plain k (numeral_of (take n s)) h)) r)
+    pub overflow_step : {g : NumberParseError} → a ≡ Err g → g ≡ NumberParseError.Overflow → Stepped text at (Ok (Item.Error Reason.Overflow, n))
+    overflow_step w z = Stepped.error (number_step _ (ap (item_of 1) (w ∙ ap (λ (g : NumberParseError). Err g) z)))
 
-    pub strange_step : {n : ℕ} → f ≡ Found.Strange n → Stepped text at (Item.Error (at + n) 1)
-    strange_step {n} q = go (subst (Scanned s) q i)
-      where
-        go : Scanned s (Found.Strange n) → Stepped text at (Item.Error (at + n) 1)
-        go (Scanned.strange {c} t b) = Stepped.error (reaches (strange c t b refl) (rest_char b))
-
-    pub broken_step : f ≡ Found.NotUtf8 → Stepped text at Item.NotUtf8
-    broken_step q = go (subst (Scanned s) q i)
-      where
-        go : Scanned s Found.NotUtf8 → Stepped text at Item.NotUtf8
-        go (Scanned.broken u) = Stepped.broken (rw e at u)
-
-    module _ {n : ℕ} (p : f ≡ Found.Number n) {a : NumberLiteral} (q : a ≡ numeral_of (take n s)) where
-      number_step : (j : Item) → item_of 1 a ≡ j → Reaches text at (at + n) j
-      number_step j w = go (subst (Scanned s) p i)
-        where
-          go : Scanned s (Found.Number n) → Reaches text at (at + n) j
-          go (Scanned.number b r) = reaches (matched 1 b (sym w ∙ ap (item_of 1) q)) r
-
-      pub literal_step : {v x y : ℕ} → a ≡ NumberLiteral.Number v x y → Stepped text at (Item.Literal (at + n) v x y)
-      literal_step w = Stepped.literal (number_step _ (ap (item_of 1) w))
-
-      pub overflow_step : a ≡ NumberLiteral.Overflow → Stepped text at (Item.Error (at + n) 2)
-      overflow_step w = Stepped.error (number_step _ (ap (item_of 1) w))
-
-      pub format_step : a ≡ NumberLiteral.InvalidFormat → Stepped text at (Item.Error (at + n) 3)
-      format_step w = Stepped.error (number_step _ (ap (item_of 1) w))
+    pub format_step : {g : NumberParseError} → a ≡ Err g → g ≡ NumberParseError.InvalidFormat → Stepped text at (Ok (Item.Error Reason.Format, n))
+    format_step w z = Stepped.error (number_step _ (ap (item_of 1) (w ∙ ap (λ (g : NumberParseError). Err g) z)))
 
 -- ---- white space, byte by byte: a way from the byte after one is a way from that byte, since the longest run is one step
 white_step : (s : List ℕ) → 1 ≤ length s → in_set white (get_or s 0 0) ≡ true → Step s (run (in_set white) s) skipped
@@ -142,22 +156,15 @@ pub record Going (text a₀ b₀ a b : List ℕ) (at nt nu nd : ℕ) : Type 0 wh
   pub goes_on : (us : List Token) (gs : List Diagnostic) → Lexes at (drop at text) us gs → Lexes 0 text (ts ++ us) (ds ++ gs)
 
 -- how far an item reaches
-abbrev pub Turned : List ℕ → ℕ → declared.Item → Type 0
-Turned text at (Item.Skipped e) = (at < e) × (e ≤ length text)
-Turned text at (Item.Token e k) = (at < e) × (e ≤ length text)
-Turned text at (Item.Literal e v x y) = (at < e) × (e ≤ length text)
-Turned text at (Item.Error e r) = (at < e) × (e ≤ length text)
-Turned text at Item.NotUtf8 = Unit {0}
+pub turned : {text : List ℕ} {at n : ℕ} {i : declared.Item} → Stepped text at (Ok (i, n)) → (1 ≤ n) × (at + n ≤ length text)
+turned (Stepped.skipped r) = (r.past, r.inside)
+turned (Stepped.token r) = (r.past, r.inside)
+turned (Stepped.literal r) = (r.past, r.inside)
+turned (Stepped.error r) = (r.past, r.inside)
 
-pub turned : {text : List ℕ} {at : ℕ} {j : declared.Item} → Stepped text at j → (i : declared.Item) → j ≡ i → Turned text at i
-turned {text} {at} w i q = subst (Turned text at) q (go w)
-  where
-    go : {j : declared.Item} → Stepped text at j → Turned text at j
-    go (Stepped.skipped r) = (r.past, r.inside)
-    go (Stepped.token r) = (r.past, r.inside)
-    go (Stepped.literal r) = (r.past, r.inside)
-    go (Stepped.error r) = (r.past, r.inside)
-    go (Stepped.broken u) = tt
+-- what stands there is j, here i
+step_at : {text : List ℕ} {at n : ℕ} {j i : declared.Item} → Stepped text at (Ok (j, n)) → j ≡ i → Stepped text at (Ok (i, n))
+step_at {text} {at} {n} w q = subst (λ (i : declared.Item). Stepped text at (Ok (i, n))) q w
 
 -- a token more, and an error more
 more_tokens : (a₀ : List ℕ) (ts : List Token) (t : Token) → stored 16 (laid 16 encode_token a₀ ts) (length ts) (encode_token t) ≡ laid 16 encode_token a₀ (ts ++ (t ∷ []))
@@ -165,6 +172,27 @@ more_tokens = laid_more encode_token 16 (lit< tt) token_size
 
 more_errors : (b₀ : List ℕ) (ds : List Diagnostic) (d : Diagnostic) → stored 8 (laid 8 encode_diagnostic b₀ ds) (length ds) (encode_diagnostic d) ≡ laid 8 encode_diagnostic b₀ (ds ++ (d ∷ []))
 more_errors = laid_more encode_diagnostic 8 (lit< tt) diagnostic_size
+
+-- reasons and suffixes as numbers
+pub reason_is : (q : Reason) → tag_of the_type q + 1 ≡ reason_code q
+reason_is Reason.Character = refl
+reason_is Reason.Overflow = refl
+reason_is Reason.Format = refl
+reason_is Reason.UnknownSuffix = refl
+reason_is Reason.Stopped = refl
+
+pub suffix_is : (q : Suffix) → tag_of suffixes q ≡ suffix_code q
+suffix_is Suffix.Absent = refl
+suffix_is Suffix.Felt = refl
+suffix_is Suffix.U32 = refl
+suffix_is Suffix.Other = refl
+
+-- the test for a suffix that is neither felt nor u32, as a number
+pub other_is : (q : Suffix) → bool_byte (sameb suffixes q Suffix.Other) ≡ cond (eqb (suffix_code q) 3) 1 0
+other_is Suffix.Absent = refl
+other_is Suffix.Felt = refl
+other_is Suffix.U32 = refl
+other_is Suffix.Other = refl
 
 one_most : (c : Bool) → cond c 1 0 ≤ 1
 one_most true = omega arith
@@ -203,13 +231,11 @@ module _ {text a₀ b₀ : List ℕ} where
     pub same_errors : (l : List ℕ) → length l ≡ length b → length l ≡ length b₀
     same_errors l e = e ∙ error_length
 
-    rest_on : {e : ℕ} {i : Item} → Reaches text at e i → Rest text e
-    rest_on r = rw r.is (rest_more g.rest r.rest)
+    rest_on : {n : ℕ} {i : Item} → Reaches text at n i → Rest text (at + n)
+    rest_on r = rest_more g.rest r.rest
 
-    lexes_on : {e : ℕ} {i : Item} → Reaches text at e i → (us : List Token) (gs : List Diagnostic) → Lexes e (drop e text) us gs → Lexes at (drop at text) (tokens i at e us) (errors i at e gs)
-    lexes_on {e} {i} r us gs =
-        subst (λ (m : ℕ). Lexes m (drop m text) us gs → Lexes at (drop at text) (tokens i at m us) (errors i at m gs)) (sym r.is)
-        (λ l. step r.n i r.step (subst (λ (s : List ℕ). Lexes (at + r.n) s us gs) (sym (drop-drop r.n at text)) l))
+    lexes_on : {n : ℕ} {i : Item} → Reaches text at n i → (us : List Token) (gs : List Diagnostic) → Lexes (at + n) (drop (at + n) text) us gs → Lexes at (drop at text) (tokens i at (at + n) us) (errors i at (at + n) gs)
+    lexes_on {n} {i} r us gs l = step n i r.step (subst (λ (s : List ℕ). Lexes (at + n) s us gs) (sym (drop-drop n at text)) l)
 
     -- nothing is put down on the way to the place m
     going_past : {m : ℕ} → at ≤ m → m ≤ length text → Rest text m → ((us : List Token) (gs : List Diagnostic) → Lexes m (drop m text) us gs → Lexes at (drop at text) us gs) → Going text a₀ b₀ a b m nt nu nd
@@ -231,23 +257,23 @@ module _ {text a₀ b₀ : List ℕ} where
           goes_on = λ us gs l. g.goes_on us gs (f us gs l);
         }
 
-    pub going_skipped : {i : declared.Item} {e : ℕ} → Stepped text at i → i ≡ Item.Skipped e → Going text a₀ b₀ a b e nt nu nd
-    going_skipped {e = e} w q = go (subst (Stepped text at) q w)
+    pub going_skipped : {j : declared.Item} {n : ℕ} → Stepped text at (Ok (j, n)) → j ≡ Item.Skipped → Going text a₀ b₀ a b (at + n) nt nu nd
+    going_skipped {j} {n} w q = go (step_at w q)
       where
-        go : Stepped text at (Item.Skipped e) → Going text a₀ b₀ a b e nt nu nd
+        go : Stepped text at (Ok (Item.Skipped, n)) → Going text a₀ b₀ a b (at + n) nt nu nd
         go (Stepped.skipped r) = going_past (omega (arith, r.past)) r.inside (rest_on r) (lexes_on r)
 
-    pub going_white : {l : List ℕ} → Table class_of l → at < length text → get_or text at 0 < 256 → get_or l (get_or text at 0) 0 ≡ 1 → Going text a₀ b₀ a b (at + 1) nt nu nd
+    pub going_white : {c : ℕ} → c ≡ class_of (get_or text at 0) → at < length text → get_or text at 0 < 256 → c ≡ 1 → Going text a₀ b₀ a b (at + 1) nt nu nd
     going_white r h k c =
         let w = class_white text at r k c in
         going_past (omega arith) (omega arith) (next_ascii g.rest h (white_ascii _ w))
         (λ us gs l. rw (drop-cons text at 0 h) (white_on w (subst (λ (k : ℕ). Lexes (at + 1) (drop k text) us gs) (add-one at) l)))
 
     -- any token
-    going_more : {a' : List ℕ} {e k x y v mu : ℕ} → Reaches text at e (token k x y v) → mu ≡ nu + cond (eqb k 1 && eqb x 3) 1 0
-        → a' ≡ stored 16 a nt (encode_token (record { kind = k; suffix = x; start = at; end = e; base = y; value = v })) → Going text a₀ b₀ a' b e (nt + 1) mu nd
-    going_more {e = e} {k} {x} {y} {v} r u f =
-        let t : Token = record { kind = k; suffix = x; start = at; end = e; base = y; value = v } in
+    going_more : {a' : List ℕ} {n k x y v mu : ℕ} → Reaches text at n (token k x y v) → mu ≡ nu + cond (eqb k 1 && eqb x 3) 1 0
+        → a' ≡ stored 16 a nt (encode_token (record { kind = k; suffix = x; start = at; end = at + n; base = y; value = v })) → Going text a₀ b₀ a' b (at + n) (nt + 1) mu nd
+    going_more {n = n} {k} {x} {y} {v} r u f =
+        let t : Token = record { kind = k; suffix = x; start = at; end = at + n; base = y; value = v } in
         record {
           short = g.short;
           inside = r.inside;
@@ -266,33 +292,34 @@ module _ {text a₀ b₀ : List ℕ} where
               subst (λ (q : List Token). Lexes 0 text q (g.ds ++ gs)) (sym (append_assoc g.ts (t ∷ []) us)) (g.goes_on (t ∷ us) gs (lexes_on r us gs l));
         }
 
-    pub going_token : {a' : List ℕ} {i : declared.Item} {e k : ℕ} → Stepped text at i → i ≡ Item.Token e k
-        → a' ≡ stored 16 a nt (encode_token (record { kind = k; suffix = 0; start = at; end = e; base = 0; value = 0 })) → Going text a₀ b₀ a' b e (nt + 1) nu nd
-    going_token {a'} {i} {e} {k} w q f = go (subst (Stepped text at) q w)
+    pub going_token : {a' : List ℕ} {j : declared.Item} {n k : ℕ} → Stepped text at (Ok (j, n)) → j ≡ Item.Token k
+        → a' ≡ stored 16 a nt (encode_token (record { kind = k; suffix = 0; start = at; end = at + n; base = 0; value = 0 })) → Going text a₀ b₀ a' b (at + n) (nt + 1) nu nd
+    going_token {a'} {j} {n} {k} w q f = go (step_at w q)
       where
         none : (c : Bool) → nu ≡ nu + cond (c && false) 1 0
         none true = omega arith
         none false = omega arith
 
-        go : Stepped text at (Item.Token e k) → Going text a₀ b₀ a' b e (nt + 1) nu nd
+        go : Stepped text at (Ok (Item.Token k, n)) → Going text a₀ b₀ a' b (at + n) (nt + 1) nu nd
         go (Stepped.token r) = going_more r (none (eqb k 1)) f
 
-    pub going_literal : {a' : List ℕ} {i : declared.Item} {e v x y o : ℕ} → Stepped text at i → i ≡ Item.Literal e v x y → o ≡ cond (eqb x 3) 1 0
-        → a' ≡ stored 16 a nt (encode_token (record { kind = 1; suffix = x; start = at; end = e; base = y; value = v })) → Going text a₀ b₀ a' b e (nt + 1) (nu + o) nd
-    going_literal {a'} {i} {e} {v} {x} {y} {o} w q u f = go (subst (Stepped text at) q w)
+    pub going_literal : {a' : List ℕ} {j : declared.Item} {n x o : ℕ} {l : NumberLiteral} → Stepped text at (Ok (j, n)) → j ≡ Item.Literal l → x ≡ suffix_code l.suffix → o ≡ bool_byte (sameb suffixes l.suffix Suffix.Other)
+        → a' ≡ stored 16 a nt (encode_token (record { kind = 1; suffix = x; start = at; end = at + n; base = l.base; value = l.value })) → Going text a₀ b₀ a' b (at + n) (nt + 1) (nu + o) nd
+    going_literal {a'} {j} {n} {x} {o} {l} w q z u f = go (step_at w q) (rw z at f)
       where
-        go : Stepped text at (Item.Literal e v x y) → Going text a₀ b₀ a' b e (nt + 1) (nu + o) nd
-        go (Stepped.literal r) = going_more r (ap (nu +◌) u) f
+        go : Stepped text at (Ok (Item.Literal l, n)) → a' ≡ stored 16 a nt (encode_token (record { kind = 1; suffix = suffix_code l.suffix; start = at; end = at + n; base = l.base; value = l.value }))
+            → Going text a₀ b₀ a' b (at + n) (nt + 1) (nu + o) nd
+        go (Stepped.literal r) f = going_more r (ap (nu +◌) (u ∙ other_is l.suffix)) f
 
-    pub going_error : {b' : List ℕ} {i : declared.Item} {e c : ℕ} → Stepped text at i → i ≡ Item.Error e c
-        → b' ≡ stored 8 b nd (encode_diagnostic (record { start = at; end = e; reason = c })) → Going text a₀ b₀ a b' e nt nu (nd + 1)
-    going_error {b'} {i} {e} {c} w q f = go (subst (Stepped text at) q w)
+    pub going_error : {b' : List ℕ} {j : declared.Item} {n c : ℕ} {q : Reason} → Stepped text at (Ok (j, n)) → j ≡ Item.Error q → c ≡ reason_code q
+        → b' ≡ stored 8 b nd (encode_diagnostic (record { start = at; end = at + n; reason = c })) → Going text a₀ b₀ a b' (at + n) nt nu (nd + 1)
+    going_error {b'} {j} {n} {c} {q} w p z f = go (step_at w p) (rw z at f)
       where
         d : Diagnostic
-        d = record { start = at; end = e; reason = c }
+        d = record { start = at; end = at + n; reason = reason_code q }
 
-        go : Stepped text at (Item.Error e c) → Going text a₀ b₀ a b' e nt nu (nd + 1)
-        go (Stepped.error r) =
+        go : Stepped text at (Ok (Item.Error q, n)) → b' ≡ stored 8 b nd (encode_diagnostic d) → Going text a₀ b₀ a b' (at + n) nt nu (nd + 1)
+        go (Stepped.error r) f =
             record {
               short = g.short;
               inside = r.inside;
@@ -313,29 +340,31 @@ module _ {text a₀ b₀ : List ℕ} where
 
     -- the ends
     module _ {a' b' : List ℕ} where
-      pub going_done : length text ≤ at → a' ≡ kept 16 nt a → b' ≡ kept 8 nd b → LexedIs text (length a₀) (length b₀) a' b' (Lexed.Done nt nu nd)
+      pub going_done : length text ≤ at → a' ≡ kept 16 nt a → b' ≡ kept 8 nd b → LexedIs text (length a₀) (length b₀) a' b' (Ok (record { tokens = nt; unknown = nu; diagnostics = nd }))
       going_done h p q =
           let all = g.goes_on [] [] (subst (λ (l : List ℕ). Lexes at l [] []) (sym (drop_of_length-le text h)) done) in
           record {
-            result = lexed g.ts g.ds;
+            result = Ok (lexed g.ts g.ds);
             is = lexes g.short (rest_end h g.rest) (simp append-nil at all);
             answer = rw (g.token_count, g.unknown_count, g.error_count);
             tokens = p ∙ ap₂ (kept 16) g.token_count g.table_of_tokens ∙ laid_kept encode_token 16 (lit< tt) token_size a₀ g.ts;
             diagnostics = q ∙ ap₂ (kept 8) g.error_count g.error_table ∙ laid_kept encode_diagnostic 8 (lit< tt) diagnostic_size b₀ g.ds;
           }
 
-      pub going_broken : {i : declared.Item} → Stepped text at i → i ≡ Item.NotUtf8 → a' ≡ cleared 0 a → b' ≡ cleared 0 b → LexedIs text (length a₀) (length b₀) a' b' Lexed.Encoding
-      going_broken w q p r = go (subst (Stepped text at) q w)
-        where
-          go : Stepped text at Item.NotUtf8 → LexedIs text (length a₀) (length b₀) a' b' Lexed.Encoding
-          go (Stepped.broken u) =
-              record {
-                result = encoding;
-                is = not_utf8 g.short (λ v. u (g.rest.there v));
-                answer = refl;
-                tokens = p ∙ cleared_all a ∙ ap zeros token_length;
-                diagnostics = r ∙ cleared_all b ∙ ap zeros error_length;
-              }
+    pub going_broken : {r : Result (declared.Item × ℕ) NotUtf8} {n : NotUtf8} → Stepped text at r → r ≡ Err n → (x : Result Lexed TextError) → IsErrAnd x (λ e. e ≡ TextError.Encoding) → IfErr x (λ e. Refused text e)
+    going_broken {r} {n} w z x h = go (subst (Stepped text at) z w) x h
+      where
+        go : Stepped text at (Err n) → (x : Result Lexed TextError) → IsErrAnd x (λ e. e ≡ TextError.Encoding) → IfErr x (λ e. Refused text e)
+        go (Stepped.broken u) (Err e) h = subst (Refused text) (sym h) (Refused.not_utf8 g.short (λ v. u (g.rest.there v)))
+        go (Stepped.broken u) (Ok l) h = absurd h
 
-pub not_short : (text a₀ b₀ : List ℕ) {a b : List ℕ} → 65535 < length text → a ≡ cleared 0 a₀ → b ≡ cleared 0 b₀ → LexedIs text (length a₀) (length b₀) a b Lexed.Long
-not_short text a₀ b₀ h p q = record { result = long; is = too_long h; answer = refl; tokens = p ∙ cleared_all a₀; diagnostics = q ∙ cleared_all b₀ }
+-- ---- what is refused leaves no entry
+refused_is : {text : List ℕ} {e : TextError} → Refused text e → ResultIs text (Err e)
+refused_is (Refused.too_long h) = too_long h
+refused_is (Refused.not_utf8 h u) = not_utf8 h u
+
+module _ (text a₀ b₀ a b : List ℕ) {a' b' : List ℕ} (p : a' ≡ cleared 0 a) (q : b' ≡ cleared 0 b) (l : length a ≡ length a₀) (m : length b ≡ length b₀) where
+  pub cleared_after : (r : Result Lexed TextError) → is_err r ≡ true → IfErr r (λ e. Refused text e) → LexedIs text (length a₀) (length b₀) a' b' r
+  cleared_after (Ok x) t h = absurd (false≢true t)
+  cleared_after (Err e) t h =
+      record { result = Err e; is = refused_is h; answer = refl; tokens = p ∙ cleared_all a ∙ ap zeros l; diagnostics = q ∙ cleared_all b ∙ ap zeros m }

@@ -2,6 +2,7 @@
 use mathlib.Core.Path.{◌≡◌, refl, sym, ap, subst, ◌∙◌}
 use mathlib.Core.Bool.{Bool, true}
 use mathlib.Core.Logic.{◌⊎◌, inl, inr, ⊎_elim}
+use Rattle.std.specs.Prelude.{Option, unwrap_or}
 use mathlib.Core.List.{List, [], ◌∷◌}
 use Prim.Native.Nat.{ℕ, suc, zero, ◌+◌, ◌≤◌, ◌<◌, zero-le}
 use native.Mathlib.Omega.{arith}
@@ -17,7 +18,8 @@ use Rattle.tables.specs.TokenKinds.{IDENT}
 use Rattle.lexer.specs.Kinds.{fixed_of}
 use Rattle.lexer.specs.Classes.{class_of}
 use Rattle.lexer.specs.Tokens.{Spells, Best, Stuck, Comment, white_space, comment, numeral, name, fixed}
-use Rattle.lexer.specs.Scans.{KindIs, kind, no_kind, not_newline}
+use Rattle.lexer.specs.Classes.{KindIs, kind, no_kind}
+use Rattle.lexer.specs.Scans.{not_newline}
 use Rattle.lexer.proofs.Texts.{Fixed, keyword, mark, fixed_is, fixed_one, white_class, letter_class, digit_class}
 
 -- no pattern matches the empty string
@@ -157,31 +159,31 @@ best_numeral s h e =
     only s j m c e (is_word a q) = ⊎_elim (λ u. omega (arith, u.1)) (λ u. absurd (omega (arith, u.0))) q
     only s j m c e (is_mark q b d g a) = absurd (omega arith)
 
-keyword_first : (s : List ℕ) (j k m c : ℕ) → c ≡ 0xFE → 1 ≤ length (take m s) → KindIs 2 19 IDENT (take m s) k → Lead s j m c → k ≤ j
-keyword_first s j k m c e h i (is_white q a) = absurd (omega arith)
-keyword_first s j k m c e h i (is_comment q b a) = absurd (omega arith)
-keyword_first s j k m c e h i (is_mark q b d g a) = absurd (omega arith)
-keyword_first s j k m c e h i (is_word a (inl u)) = absurd (omega (arith, u.0))
-keyword_first s j k m c e h (kind x y z) (is_word a (inr (u, inl v))) = omega arith
-keyword_first s j k m c e h (no_kind x y) (is_word a (inr (u, inl v))) = omega arith
-keyword_first s j k m c e h (kind x y z) (is_word a (inr (u, inr v))) =
-    omega (arith, fixed_one k j (subst (λ (l : List ℕ). 1 ≤ length l) z h) (sym z ∙ v.2))
-keyword_first s j k m c e h (no_kind x y) (is_word a (inr (u, inr v))) = absurd (y j v.0 v.1 v.2)
+keyword_first : (s : List ℕ) (j m c : ℕ) {r : Option ℕ} → c ≡ 0xFE → 1 ≤ length (take m s) → KindIs 2 19 (take m s) r → Lead s j m c → unwrap_or r IDENT ≤ j
+keyword_first s j m c e h i (is_white q a) = absurd (omega arith)
+keyword_first s j m c e h i (is_comment q b a) = absurd (omega arith)
+keyword_first s j m c e h i (is_mark q b d g a) = absurd (omega arith)
+keyword_first s j m c e h i (is_word a (inl u)) = absurd (omega (arith, u.0))
+keyword_first s j m c e h (kind x y z) (is_word a (inr (u, inl v))) = omega arith
+keyword_first s j m c e h (no_kind y) (is_word a (inr (u, inl v))) = omega arith
+keyword_first s j m c e h (kind x y z) (is_word a (inr (u, inr v))) =
+    omega (arith, fixed_one _ j (subst (λ (l : List ℕ). 1 ≤ length l) z h) (sym z ∙ v.2))
+keyword_first s j m c e h (no_kind y) (is_word a (inr (u, inr v))) = absurd (y j v.0 v.1 v.2)
 
-keyword_spells : (s : List ℕ) (k : ℕ) → 1 ≤ length s → Name s → KindIs 2 19 IDENT s k → Spells k s
-keyword_spells s k h n (kind x y z) = fixed h z
-keyword_spells s k h n (no_kind x y) = name x n
+keyword_spells : (s : List ℕ) {r : Option ℕ} → 1 ≤ length s → Name s → KindIs 2 19 s r → Spells (unwrap_or r IDENT) s
+keyword_spells s h n (kind x y z) = fixed h z
+keyword_spells s h n (no_kind y) = name refl n
 
-pub best_name : (s : List ℕ) (k : ℕ) → 1 ≤ length s → in_set letter (get_or s 0 0) ≡ true → KindIs 2 19 IDENT (take (run (in_set word) s) s) k → Best s k (run (in_set word) s)
-best_name s k h e i =
+pub best_name : (s : List ℕ) {r : Option ℕ} → 1 ≤ length s → in_set letter (get_or s 0 0) ≡ true → KindIs 2 19 (take (run (in_set word) s) s) r → Best s (unwrap_or r IDENT) (run (in_set word) s)
+best_name s h e i =
     let c = letter_class (get_or s 0 0) e in
     let l : 1 ≤ length (take (run (in_set word) s) s) =
     omega (arith, length-take (run (in_set word) s) s, run_within (in_set word) s, run_some (in_set word) s h (letter_word (get_or s 0 0) e)) in
     record {
       within = run_within (in_set word) s;
-      spells = keyword_spells (take (run (in_set word) s) s) k l (name_here s h e) i;
+      spells = keyword_spells (take (run (in_set word) s) s) l (name_here s h e) i;
       longest = λ j m g p. word_most s j m (class_of (get_or s 0 0)) (omega arith) g (lead s j m g p);
-      first = λ j p. keyword_first s j k (run (in_set word) s) (class_of (get_or s 0 0)) c l i (lead s j (run (in_set word) s) (run_within (in_set word) s) p);
+      first = λ j p. keyword_first s j (run (in_set word) s) (class_of (get_or s 0 0)) c l i (lead s j (run (in_set word) s) (run_within (in_set word) s) p);
     }
 
 -- ---- marks: a text of one or two bytes, if no comment begins here and, of one byte, if no mark of two does

@@ -1,4 +1,5 @@
 pub mod Texts
+pub mod Pieces
 pub mod Leads
 pub mod Scans
 pub mod Determined

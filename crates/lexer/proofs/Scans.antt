@@ -1,16 +1,17 @@
--- The scanners' loops, and what the scanner finds by the class of the first byte. Assumes nothing.
+-- The scanner's loop over a comment, and what the scanner finds by the class of the first byte. Assumes nothing.
 use mathlib.Core.Path.{◌≡◌, refl, sym, ap, subst, ◌∙◌}
-use mathlib.Core.Bool.{Bool, true, false, cond, not, false≢true}
+use mathlib.Core.Bool.{Bool, true, false, cond, not, ◌&&◌, false≢true}
 use mathlib.Core.Logic.{⊎_elim}
 use mathlib.Core.List.{List, [], ◌∷◌}
-use Prim.Native.Nat.{ℕ, zero, suc, ◌+◌, ◌-◌, ◌≤◌, ◌<◌, min}
+use Rattle.std.specs.Prelude.{Option, Some, None, unwrap_or, Result, Ok, Err, IsErr}
+use Rattle.std.specs.List.{fold}
+use Prim.Native.Nat.{ℕ, zero, suc, ◌+◌, ◌≤◌, ◌<◌}
 use native.Mathlib.Nat.{add-zero}
 use native.Mathlib.Omega.{arith}
-use native.Mathlib.Decide.{dec_lt}
-use lib.Dec.{T, leb, ltb, leb→le}
-use lib.ListN.{length, take, drop, get_or, length-take, length-drop, get_or-eq_default}
-use lib.Seq.{get_or-drop, take_all, drop-drop}
-use borrow.Author.Tests.{eq-eqb, le-leb, lt-leb, lt-ltb, ltb-true}
+use lib.Dec.{T, leb, ltb, eqb, leb→le}
+use lib.ListN.{length, take, drop, get_or, length-take, length-drop, get_or-eq_default, get_or-append, length-append}
+use lib.Seq.{get_or-drop, take_all}
+use borrow.Author.Tests.{eq-eqb, lt-ltb, ltb-true}
 use Rattle.patterns.specs.Bytes.{within, Set, in_set, white, word, run}
 use Rattle.patterns.specs.Patterns.{All}
 use Rattle.patterns.proofs.Tests.{T_of, or_cases, implies}
@@ -20,11 +21,13 @@ use Rattle.utf8.specs.Utf8.{Begins, FirstChar, Rest, begins, nothing}
 use Rattle.utf8.proofs.Laws.{begins_some, begins_high, rest_none, rest_char, rest_ascii, rest_more, rest_stop, next_ascii}
 use Rattle.tables.specs.TokenKinds.{IDENT, LPAREN, SEMI}
 use Rattle.lexer.specs.Kinds.{texts, fixed_of}
-use Rattle.lexer.specs.Classes.{class_of, Table}
+use Rattle.lexer.specs.Classes.{class_of, KindIs, kind, no_kind}
 use Rattle.lexer.specs.Tokens.{Best, Stuck}
-use Rattle.lexer.specs.Scans.{KindIs, kind, no_kind, Begun, not_newline, Still, Plain, LineIs, line, broken, Scanned}
+use Rattle.lexer.specs.Scans.{Begun, not_newline, plain, all_plain, LineIs, line, broken, Scanned}
 use Rattle.lexer.specs.declared.scan.Found.{Found}
-use Rattle.lexer.proofs.Texts.{white_is, letter_is, digit_is, word_is, mark_is, next_is, lone_next, kind_law, fixed_kind}
+use Rattle.lexer.specs.declared.scan.NotUtf8.{NotUtf8}
+use Rattle.lexer.proofs.Pieces.{Piece}
+use Rattle.lexer.proofs.Texts.{white_is, letter_is, digit_is, mark_is, next_is, lone_next, kind_law, fixed_kind}
 use Rattle.lexer.proofs.Leads.{best_white, best_comment, best_numeral, best_name, best_mark, stuck}
 
 -- ---- a run's first byte
@@ -36,65 +39,6 @@ run_first f (b ∷ s) h = (omega arith, go (f b) refl h)
     go : (x : Bool) → f b ≡ x → 1 ≤ cond x (suc (run f s)) 0 → f b ≡ true
     go true e k = e
     go false e k = absurd (omega arith)
-
--- ---- runs of a class: the table's entry at the byte at i
-module _ {t l : List ℕ} {i : ℕ} (r : Table class_of l) (h : i < length t) (small : get_or t i 0 < 256) where
-  pub word_more : Passed (in_set word) t i → 0xFE ≤ get_or l (get_or t i 0) 0 → Passed (in_set word) t (i + 1)
-  word_more p a = passed_more p h (word_is _ _ small (r.rule _ small) ∙ le-leb 0xFE _ a)
-
-  pub word_stop : Passed (in_set word) t i → get_or l (get_or t i 0) 0 < 0xFE → i ≡ run (in_set word) t
-  word_stop p a = passed_stop p h (word_is _ _ small (r.rule _ small) ∙ lt-leb 0xFE _ a)
-
-run_past : (f : ℕ → Bool) (m : ℕ) (s : List ℕ) → m ≤ run f s → run f s ≡ m + run f (drop m s)
-unfolding run
-run_past f zero s h = omega arith
-run_past f (suc m) [] h = absurd (omega arith)
-run_past f (suc m) (b ∷ s) h = go (f b) h (λ k. run_past f m s k)
-  where
-    go : (x : Bool) → suc m ≤ cond x (suc (run f s)) 0 → (m ≤ run f s → run f s ≡ m + run f (drop m s)) → cond x (suc (run f s)) 0 ≡ suc m + run f (drop m s)
-    go true k r = omega (arith, r (omega arith))
-    go false k r = absurd (omega arith)
-
--- n of the first m bytes from i on, s, pass the test
-module _ {f : ℕ → Bool} {t s : List ℕ} {i n m : ℕ} (p : Passed f t i) (q : s ≡ drop i t) (e : n ≡ min (run f s) m) where
-  pub some_pass : n < m → i + n ≡ run f t
-  some_pass h = omega (arith, p.so_far, ap (run f) q)
-
-  pub rest_passes : length s ≤ m → i + n ≡ run f t
-  rest_passes h = omega (arith, p.so_far, ap (run f) q, run_within f s)
-
-  pub all_pass : m ≤ n → Passed f t (i + m)
-  all_pass h =
-      let k : m ≤ run f (drop i t) = omega (arith, ap (run f) q) in
-      record {
-        within = omega (arith, run_within f (drop i t), length-drop i t, p.within);
-        so_far = omega (arith, p.so_far, run_past f m (drop i t) k, ap (run f) (drop-drop m i t));
-      }
-
--- ---- sixteen bytes at a time
-module _ {x : Bool} {b : ℕ} where
-  pub still_not : Still x b false
-  still_not = record { so = λ e. absurd (false≢true e) }
-
-  pub still_yes : x ≡ true → (b ≡ 10 → ⊥) → Still x b (ltb b 0x80)
-  still_yes e n = record { so = λ a. (e, ltb-true b 0x80 a, n) }
-
-module _ {s : List ℕ} {i : ℕ} where
-  pub plain_none : {r : Bool} → Plain s i 0 r
-  plain_none = record { each = λ e j h. absurd (omega arith) }
-
-  pub plain_least : {n m : ℕ} {r : Bool} → Plain s i n r → m ≤ n → Plain s i m r
-  plain_least p h = record { each = λ e j k. p.each e j (omega arith) }
-
-  pub plain_more : {n : ℕ} {x r : Bool} → Plain s i n x → Still x (get_or s (i + n) 0) r → Plain s i (n + 1) r
-  plain_more {n} p q =
-      record {
-        each = λ e j h.
-            elim (dec_lt j n) [
-              | yes k ↦ p.each (q.so e).0 j k
-              | no k ↦ let u : n ≡ j = omega arith in subst (λ (m : ℕ). (get_or s (i + m) 0 < 0x80) × (get_or s (i + m) 0 ≡ 10 → ⊥)) u ((q.so e).1, (q.so e).2)
-            ];
-      }
 
 -- ---- a comment's loop
 pub record Line (t : List ℕ) (i : ℕ) : Type 0 where
@@ -120,6 +64,29 @@ high_more (suc n) t i p h f =
     (high_more n t (i + 1) (passed_more p (omega arith) (no_newline (get_or t i 0) (λ z. omega arith))) (omega arith)
     (λ j k. let u : i + suc j ≡ (i + 1) + j = omega arith in subst (λ (m : ℕ). 0x80 ≤ get_or t m 0) u (f (suc j) (omega arith))))
 
+plain_byte : (b : ℕ) → plain b ≡ true → (b < 0x80) × (b ≡ 10 → ⊥)
+plain_byte b e = go (ltb b 0x80) refl e
+  where
+    go : (x : Bool) → ltb b 0x80 ≡ x → (x && not (eqb b 10)) ≡ true → (b < 0x80) × (b ≡ 10 → ⊥)
+    go true l f = (ltb-true b 0x80 l, λ z. false≢true (sym (ap not (eq-eqb b 10 z)) ∙ f))
+    go false l f = absurd (false≢true f)
+
+plain_fold : (x : List ℕ) (p : Bool) → fold (λ p b. p && plain b) p x ≡ true → (p ≡ true) × ((j : ℕ) → j < length x → (get_or x j 0 < 0x80) × (get_or x j 0 ≡ 10 → ⊥))
+plain_fold [] p e = (e, λ j h. absurd (omega arith))
+plain_fold (b ∷ x) p e = go p refl (plain_fold x (p && plain b) e)
+  where
+    go : (q : Bool) → p ≡ q → ((p && plain b) ≡ true) × ((j : ℕ) → j < length x → (get_or x j 0 < 0x80) × (get_or x j 0 ≡ 10 → ⊥))
+        → (p ≡ true) × ((j : ℕ) → j < length (b ∷ x) → (get_or (b ∷ x) j 0 < 0x80) × (get_or (b ∷ x) j 0 ≡ 10 → ⊥))
+    go false z k = absurd (false≢true (sym (ap (λ (r : Bool). r && plain b) z) ∙ k.0))
+    go true z k = (z, each)
+      where
+        each : (j : ℕ) → j < length (b ∷ x) → (get_or (b ∷ x) j 0 < 0x80) × (get_or (b ∷ x) j 0 ≡ 10 → ⊥)
+        each zero h = plain_byte b (sym (ap (λ (r : Bool). r && plain b) z) ∙ k.0)
+        each (suc j) h = k.1 j (omega arith)
+
+plain_at : (x : List ℕ) → all_plain x ≡ true → (j : ℕ) → j < length x → (get_or x j 0 < 0x80) × (get_or x j 0 ≡ 10 → ⊥)
+plain_at x e = (plain_fold x true e).1
+
 module _ {t : List ℕ} where
   pub line_none : Line t 0
   line_none = record { passed = passed_none; rest = rest_none }
@@ -134,48 +101,63 @@ module _ {t : List ℕ} where
       let k = f n (omega arith) in
       subst (Line t) e (line_ascii (line_many n g (omega arith) (λ j l. f j (omega arith))) (omega arith) k.1 k.0)
 
-  pub line_plain : {i : ℕ} {r : Bool} → Line t i → 16 ≤ length t - i → Plain t i 16 r → r ≡ true → Line t (i + 16)
-  line_plain g h p e = line_many 16 g (omega arith) (p.each e)
+  pub line_plain : {i : ℕ} {x r : List ℕ} → Line t i → Piece t i 16 x r → all_plain x ≡ true → Line t (i + 16)
+  line_plain {i} {x} {r} g p e =
+      let h : i + 16 ≤ length t = omega (arith, ap length p.front, length-append x r, p.size, length-drop i t, g.passed.within) in
+      line_many 16 g h
+      (λ j k.
+      let u : get_or t (i + j) 0 ≡ get_or x j 0 = sym (get_or-drop i t j 0) ∙ ap (λ (l : List ℕ). get_or l j 0) (sym p.front) ∙ get_or-append x r 0 j (omega (arith, p.size)) in
+      rw u (plain_at x e j (omega (arith, p.size))))
 
-  pub line_char : {i n : ℕ} → Line t i → i < length t → 0x80 ≤ get_or t i 0 → {s : List ℕ} → FirstChar s n → s ≡ drop i t → (n ≡ 0 → ⊥) → Line t (i + n)
-  line_char g h a (nothing e f) r z = absurd (z e)
-  line_char {i} {n} g h a (begins c b) r z =
-      let d : Begins (drop i t) c n = rw r at b in
-      let k : 0x80 ≤ get_or (drop i t) 0 0 = rw (get_or-drop, add-zero) a in
-      record {
-        passed = high_more n t i g.passed (omega (arith, begins_some d, length-drop i t)) (λ j m. rw get_or-drop at (begins_high d k j m));
-        rest = rest_more g.rest (rest_char d);
-      }
+  pub line_char : {i n : ℕ} → Line t i → i < length t → 0x80 ≤ get_or t i 0 → {s : List ℕ} {r : Option ℕ} → FirstChar s r → s ≡ drop i t → r ≡ Some n → Line t (i + n)
+  line_char {i} {n} g h a {s} f r z = go (subst (FirstChar s) z f)
+    where
+      go : FirstChar s (Some n) → Line t (i + n)
+      go (begins c m b) =
+          let d : Begins (drop i t) c n = rw r at b in
+          let k : 0x80 ≤ get_or (drop i t) 0 0 = rw (get_or-drop, add-zero) a in
+          record {
+            passed = high_more n t i g.passed (omega (arith, begins_some d, length-drop i t)) (λ j m. rw get_or-drop at (begins_high d k j m));
+            rest = rest_more g.rest (rest_char d);
+          }
 
-  pub line_newline : {i : ℕ} → Line t i → i < length t → get_or t i 0 ≡ 10 → LineIs t i
-  line_newline g h e = line (passed_stop g.passed h (newline _ e)) (λ k. e) g.rest
+  pub line_newline : {i : ℕ} → Line t i → i < length t → get_or t i 0 ≡ 10 → LineIs t (Ok i)
+  line_newline g h e = line (passed_stop g.passed h (newline _ e)) g.rest
 
-  pub line_end : {i : ℕ} → Line t i → length t ≤ i → LineIs t i
-  line_end g h = line (passed_end g.passed h) (λ k. absurd (omega arith)) g.rest
+  pub line_end : {i : ℕ} → Line t i → length t ≤ i → LineIs t (Ok i)
+  line_end g h = line (passed_end g.passed h) g.rest
 
-  pub line_broken : {i n : ℕ} → Line t i → i < length t → (get_or t i 0 ≡ 10 → ⊥) → {s : List ℕ} → FirstChar s n → s ≡ drop i t → n ≡ 0 → LineIs t i
-  line_broken g h e (nothing z f) r k = broken h e (rest_stop h g.rest (rw r at f))
-  line_broken g h e (begins c b) r k = absurd (omega (arith, begins_some b))
+  pub line_broken : {i : ℕ} → Line t i → i < length t → {s : List ℕ} {r : Option ℕ} → FirstChar s r → s ≡ drop i t → r ≡ None → (x : Result ℕ NotUtf8) → IsErr x → LineIs t x
+  line_broken {i} g h {s} f r z x w = go (subst (FirstChar s) z f) x w
+    where
+      go : FirstChar s None → (x : Result ℕ NotUtf8) → IsErr x → LineIs t x
+      go (nothing f) (Err e) w = broken (rest_stop h g.rest (rw r at f))
+      go (nothing f) (Ok n) w = absurd (false≢true w)
 
 -- ---- a character that begins no token
-module _ {s : List ℕ} {n : ℕ} where
-  pub strange_char : Stuck s → FirstChar s n → (n ≡ 0 → ⊥) → Scanned s (Found.Strange n)
-  strange_char t (begins c b) z = Scanned.strange t b
-  strange_char t (nothing e f) z = absurd (z e)
+module _ {s : List ℕ} {r : Option ℕ} where
+  pub strange_char : {n : ℕ} → Stuck s → FirstChar s r → r ≡ Some n → Scanned s (Ok (Found.Strange n))
+  strange_char {n} t f z = go (subst (FirstChar s) z f)
+    where
+      go : FirstChar s (Some n) → Scanned s (Ok (Found.Strange n))
+      go (begins c m b) = Scanned.strange t b
 
-  pub strange_none : 0 < length s → FirstChar s n → n ≡ 0 → Scanned s Found.NotUtf8
-  strange_none h (begins c b) z = absurd (omega (arith, begins_some b))
-  strange_none h (nothing e f) z = Scanned.broken (rest_stop h rest_none f)
+  pub strange_none : 0 < length s → FirstChar s r → r ≡ None → (x : Result Found NotUtf8) → IsErr x → Scanned s x
+  strange_none h f z x w = go (subst (FirstChar s) z f) x w
+    where
+      go : FirstChar s None → (x : Result Found NotUtf8) → IsErr x → Scanned s x
+      go (nothing f) (Err e) w = Scanned.broken (rest_stop h rest_none f)
+      go (nothing f) (Ok n) w = absurd (false≢true w)
 
 -- ---- what is found at the start of a text, by the class of its first byte
-module _ (t : List ℕ) (i : ℕ) {l : List ℕ} (r : Table class_of l) (h : get_or t i 0 < 256) where
-  pub class_white : get_or l (get_or t i 0) 0 ≡ 1 → in_set white (get_or t i 0) ≡ true
-  class_white e = white_is _ _ h (r.rule _ h) ∙ eq-eqb _ 1 e
+module _ (t : List ℕ) (i : ℕ) {c : ℕ} (r : c ≡ class_of (get_or t i 0)) (h : get_or t i 0 < 256) where
+  pub class_white : c ≡ 1 → in_set white (get_or t i 0) ≡ true
+  class_white e = white_is _ _ h r ∙ eq-eqb _ 1 e
 
-  pub begun_at : i < length t → (get_or l (get_or t i 0) 0 ≡ 1 → ⊥) → Begun (drop i t) (get_or l (get_or t i 0) 0)
+  pub begun_at : i < length t → (c ≡ 1 → ⊥) → Begun (drop i t) c
   begun_at k n =
       let b : get_or (drop i t) 0 0 ≡ get_or t i 0 = rw (get_or-drop, add-zero) in
-      record { some = omega (arith, length-drop i t); small = rw b h; class_is = rw b (r.rule _ h); dark = n }
+      record { some = omega (arith, length-drop i t); small = rw b h; class_is = rw b r; dark = n }
 
 abbrev ascii : ℕ → Bool
 ascii b = ltb b 0x80
@@ -220,23 +202,23 @@ take_two : (s : List ℕ) → 1 < length s → take 2 s ≡ get_or s 0 0 ∷ get
 take_two [] h = absurd (omega arith)
 take_two (a ∷ s) h = ap (λ (l : List ℕ). a ∷ l) (take_one s (omega arith))
 
-pub found_white : {s : List ℕ} → 1 ≤ length s → in_set white (get_or s 0 0) ≡ true → Scanned s (Found.Skip (run (in_set white) s))
+pub found_white : {s : List ℕ} → 1 ≤ length s → in_set white (get_or s 0 0) ≡ true → Scanned s (Ok (Found.Skip (run (in_set white) s)))
 found_white {s} h w = Scanned.skip (best_white s h w) (white_rest s)
 
 module _ {s : List ℕ} {c : ℕ} (g : Begun s c) where
-  pub found_name : {n k : ℕ} → c ≡ 0xFE → n ≡ run (in_set word) s → KindIs 2 19 IDENT (take n s) k → Scanned s (Found.Token k n)
-  found_name {n} {k} q e i =
+  pub found_name : {n : ℕ} {r : Option ℕ} → c ≡ 0xFE → n ≡ run (in_set word) s → KindIs 2 19 (take n s) r → Scanned s (Ok (Found.Token (unwrap_or r IDENT) n))
+  found_name {n} {r} q e i =
       let l = letter_is _ _ g.small g.class_is ∙ eq-eqb c 0xFE q in
-      subst (λ (m : ℕ). Scanned s (Found.Token k m)) (sym e)
-      (Scanned.token (least i) (best_name s k g.some l (subst (λ (m : ℕ). KindIs 2 19 IDENT (take m s) k) e i)) (word_rest s))
+      subst (λ (m : ℕ). Scanned s (Ok (Found.Token (unwrap_or r IDENT) m))) (sym e)
+      (Scanned.token (least i) (best_name s g.some l (subst (λ (m : ℕ). KindIs 2 19 (take m s) r) e i)) (word_rest s))
     where
-      least : {w : List ℕ} → KindIs 2 19 IDENT w k → 2 ≤ k
+      least : {w : List ℕ} {r : Option ℕ} → KindIs 2 19 w r → 2 ≤ unwrap_or r IDENT
       least (kind a b d) = a
-      least (no_kind a b) = omega arith
+      least (no_kind b) = omega arith
 
-  pub found_numeral : {n : ℕ} → c ≡ 0xFF → n ≡ run (in_set word) s → Scanned s (Found.Number n)
+  pub found_numeral : {n : ℕ} → c ≡ 0xFF → n ≡ run (in_set word) s → Scanned s (Ok (Found.Number n))
   found_numeral q e =
-      subst (λ (m : ℕ). Scanned s (Found.Number m)) (sym e) (Scanned.number (best_numeral s g.some (digit_is _ _ g.small g.class_is ∙ eq-eqb c 0xFF q)) (word_rest s))
+      subst (λ (m : ℕ). Scanned s (Ok (Found.Number m))) (sym e) (Scanned.number (best_numeral s g.some (digit_is _ _ g.small g.class_is ∙ eq-eqb c 0xFF q)) (word_rest s))
 
   pub found_nothing : 0x80 ≤ c → c < 0xFE → Stuck s
   found_nothing h k = stuck s (omega (arith, g.class_is)) (omega (arith, g.class_is))
@@ -253,57 +235,65 @@ module _ {s : List ℕ} {c : ℕ} (m : Marked s c) where
   no_comment : (c ≡ 36 → get_or s 1 0 ≡ 47 → ⊥) → class_of (get_or s 0 0) ≡ 36 → get_or s 1 0 ≡ 47 → ⊥
   no_comment f e = f (m.begun.class_is ∙ e)
 
-  single : (c ≡ 36 → get_or s 1 0 ≡ 47 → ⊥) → ((j : ℕ) → 2 ≤ length s → 21 ≤ j → get_or s 0 0 ∷ get_or s 1 0 ∷ [] ≡ fixed_of j → ⊥) → Scanned s (Found.Token c 1)
+  single : (c ≡ 36 → get_or s 1 0 ≡ 47 → ⊥) → ((j : ℕ) → 2 ≤ length s → 21 ≤ j → get_or s 0 0 ∷ get_or s 1 0 ∷ [] ≡ fixed_of j → ⊥) → Scanned s (Ok (Found.Token c 1))
   single f lone =
       let k = mark_of in
       let e : take 1 s ≡ fixed_of c = take_one s m.begun.some ∙ k.2 ∙ ap fixed_of (sym m.begun.class_is) in
       Scanned.token {k = c} (omega (arith, k.0, m.begun.class_is))
       (best_mark s c 1 m.begun.some (omega arith) k.0 k.1 (no_comment f) (λ j a b d t. lone j b d (sym (take_two s (omega arith)) ∙ t)) e) (mark_rest 1 c s m.begun.some (omega arith) e)
 
-  pub found_lone : within LPAREN SEMI c ≡ true → Scanned s (Found.Token c 1)
+  pub found_lone : within LPAREN SEMI c ≡ true → Scanned s (Ok (Found.Token c 1))
   found_lone w =
       let r = within_is LPAREN SEMI c (T_of w) in
       let n = lone_next (get_or s 0 0) m.begun.small (ap (within LPAREN SEMI) (sym m.begun.class_is) ∙ w) in
       single (λ q e. omega (arith, r.0)) (λ j a b e. omega (arith, n, (next_is j (get_or s 0 0) (get_or s 1 0) b e).1))
 
-  pub found_last : length s ≡ 1 → Scanned s (Found.Token c 1)
+  pub found_last : length s ≡ 1 → Scanned s (Ok (Found.Token c 1))
   found_last h = single (λ q e. omega (arith, get_or-eq_default s 0 {n = 1} (omega arith))) (λ j a b e. omega arith)
 
-  pub found_slash : c ≡ 36 → (get_or s 1 0 ≡ 47 → ⊥) → Scanned s (Found.Token c 1)
+  pub found_slash : c ≡ 36 → (get_or s 1 0 ≡ 47 → ⊥) → Scanned s (Ok (Found.Token c 1))
   found_slash q n = single (λ p. n) (λ j a b e. (next_is j (get_or s 0 0) (get_or s 1 0) b e).2 (mark_of.3 (sym m.begun.class_is ∙ q)))
 
-  pub found_single : {p : ℕ} → (c ≡ 36 → ⊥) → KindIs 21 50 0 (get_or s 0 0 ∷ get_or s 1 0 ∷ []) p → p ≡ 0 → Scanned s (Found.Token c 1)
-  found_single n (kind a b d) z = absurd (omega arith)
-  found_single n (no_kind a b) z = single (λ q e. n q) (λ j h i e. b j i (two_most j h i e) e)
+  pub found_single : {r : Option ℕ} → (c ≡ 36 → ⊥) → KindIs 21 50 (get_or s 0 0 ∷ get_or s 1 0 ∷ []) r → r ≡ None → Scanned s (Ok (Found.Token c 1))
+  found_single {r} n i z = go (subst (KindIs 21 50 (get_or s 0 0 ∷ get_or s 1 0 ∷ [])) z i)
     where
       two_most : (j : ℕ) → 2 ≤ length s → 21 ≤ j → get_or s 0 0 ∷ get_or s 1 0 ∷ [] ≡ fixed_of j → j ≤ 50
       two_most j h i e = omega (arith, fixed_kind j (omega (arith, ap length e)))
 
-  pub found_pair : {p : ℕ} → 1 < length s → (c ≡ 36 → ⊥) → KindIs 21 50 0 (get_or s 0 0 ∷ get_or s 1 0 ∷ []) p → (p ≡ 0 → ⊥) → Scanned s (Found.Token p 2)
-  found_pair h n (no_kind a b) z = absurd (z a)
-  found_pair {p} h n (kind a b d) z =
-      let e : take 2 s ≡ fixed_of p = take_two s h ∙ d in
-      Scanned.token {k = p} (omega arith)
-      (best_mark s p 2 h (omega arith) mark_of.0 mark_of.1 (no_comment (λ q e. n q)) (λ j a b d t. omega arith) e) (mark_rest 2 p s h (omega arith) e)
+      go : KindIs 21 50 (get_or s 0 0 ∷ get_or s 1 0 ∷ []) None → Scanned s (Ok (Found.Token c 1))
+      go (no_kind b) = single (λ q e. n q) (λ j h i e. b j i (two_most j h i e) e)
+
+  pub found_pair : {r : Option ℕ} {p : ℕ} → 1 < length s → (c ≡ 36 → ⊥) → KindIs 21 50 (get_or s 0 0 ∷ get_or s 1 0 ∷ []) r → r ≡ Some p → Scanned s (Ok (Found.Token p 2))
+  found_pair {r} {p} h n i z = go (subst (KindIs 21 50 (get_or s 0 0 ∷ get_or s 1 0 ∷ [])) z i)
+    where
+      go : KindIs 21 50 (get_or s 0 0 ∷ get_or s 1 0 ∷ []) (Some p) → Scanned s (Ok (Found.Token p 2))
+      go (kind a b d) =
+          let e : take 2 s ≡ fixed_of p = take_two s h ∙ d in
+          Scanned.token {k = p} (omega arith)
+          (best_mark s p 2 h (omega arith) mark_of.0 mark_of.1 (no_comment (λ q e. n q)) (λ j a b d t. omega arith) e) (mark_rest 2 p s h (omega arith) e)
 
   slashes : c ≡ 36 → get_or s 1 0 ≡ 47 → 1 < length s → Rest s 2
   slashes q e h = ascii_rest 2 s h (rw (take_two s h) (lt-ltb (get_or s 0 0) 0x80 (omega (arith, mark_of.3 (sym m.begun.class_is ∙ q))), (lt-ltb (get_or s 1 0) 0x80 (omega arith), tt)))
 
-  pub found_comment : {u : List ℕ} {n : ℕ} → c ≡ 36 → get_or s 1 0 ≡ 47 → 1 < length s → LineIs u n → u ≡ drop 2 s → (n + 2 < length s → get_or s (n + 2) 0 ≡ 10) → Scanned s (Found.Skip (n + 2))
-  found_comment {u} {n} q e h (line r w t) d f =
-      let k : 2 + run not_newline (drop 2 s) ≡ n + 2 = omega (arith, r ∙ ap (run not_newline) d) in
-      let l : 2 + n ≡ n + 2 = omega arith in
-      Scanned.skip (subst (Best s 0) k (best_comment s h (mark_of.3 (sym m.begun.class_is ∙ q)) e)) (subst (Rest s) l (rest_more (slashes q e h) (rw d at t)))
-  found_comment {u} {n} q e h (broken a b t) d f =
-      let l : 2 + n ≡ n + 2 = omega arith in
-      absurd (b (ap (λ (v : List ℕ). get_or v n 0) d ∙ get_or-drop 2 s n 0 ∙ ap (λ (i : ℕ). get_or s i 0) l ∙ f (omega (arith, ap length d, length-drop 2 s))))
+  module _ (q : c ≡ 36) (e : get_or s 1 0 ≡ 47) (h : 1 < length s) {u : List ℕ} (d : u ≡ drop 2 s) where
+    pub found_comment : {r : Result ℕ NotUtf8} {n : ℕ} → LineIs u r → r ≡ Ok n → Scanned s (Ok (Found.Skip (n + 2)))
+    found_comment {r} {n} i z = go (subst (LineIs u) z i)
+      where
+        go : LineIs u (Ok n) → Scanned s (Ok (Found.Skip (n + 2)))
+        go (line r t) =
+            let k : 2 + run not_newline (drop 2 s) ≡ n + 2 = omega (arith, r ∙ ap (run not_newline) d) in
+            let l : 2 + n ≡ n + 2 = omega arith in
+            Scanned.skip (subst (Best s 0) k (best_comment s h (mark_of.3 (sym m.begun.class_is ∙ q)) e)) (subst (Rest s) l (rest_more (slashes q e h) (rw d at t)))
 
-  pub found_broken : {u : List ℕ} {n : ℕ} → c ≡ 36 → get_or s 1 0 ≡ 47 → 1 < length s → LineIs u n → u ≡ drop 2 s → n + 2 < length s → (get_or s (n + 2) 0 ≡ 10 → ⊥) → Scanned s Found.NotUtf8
-  found_broken {u} {n} q e h (line r w t) d f z =
-      let l : 2 + n ≡ n + 2 = omega arith in
-      absurd (z (ap (λ (i : ℕ). get_or s i 0) (sym l) ∙ sym (get_or-drop 2 s n 0) ∙ ap (λ (v : List ℕ). get_or v n 0) (sym d) ∙ w (omega (arith, ap length d, length-drop 2 s))))
-  found_broken q e h (broken a b t) d f z = Scanned.broken (λ v. t (rw d ((slashes q e h).there v)))
+    pub found_broken : {r : Result ℕ NotUtf8} {n : NotUtf8} → LineIs u r → r ≡ Err n → (x : Result Found NotUtf8) → IsErr x → Scanned s x
+    found_broken {r} {n} i z x w = go (subst (LineIs u) z i) x w
+      where
+        go : LineIs u (Err n) → (x : Result Found NotUtf8) → IsErr x → Scanned s x
+        go (broken t) (Err f) w = Scanned.broken (λ v. t (rw d ((slashes q e h).there v)))
+        go (broken t) (Ok f) w = absurd (false≢true w)
 
-pub line_within : {s : List ℕ} {n : ℕ} → LineIs s n → n ≤ length s
-line_within {s} (line r w t) = omega (arith, run_within not_newline s)
-line_within (broken a b t) = omega arith
+pub line_within : {s : List ℕ} {r : Result ℕ NotUtf8} {n : ℕ} → LineIs s r → r ≡ Ok n → n ≤ length s
+line_within {s} {r} {n} i z = go (subst (LineIs s) z i)
+  where
+    go : LineIs s (Ok n) → n ≤ length s
+    go (line r t) = omega (arith, run_within not_newline s)

@@ -3,10 +3,11 @@ use mathlib.Core.Path.{◌≡◌, refl, sym, ap, subst, ◌∙◌}
 use mathlib.Core.Bool.{Bool, true, false, ◌&&◌, ◌||◌, not, beq, false≢true}
 use mathlib.Core.Logic.{⊎_elim}
 use mathlib.Core.List.{List, [], ◌∷◌}
+use Rattle.std.specs.Prelude.{Some, None}
 use Prim.Native.Nat.{ℕ, ◌+◌, ◌*◌, ◌-◌, ◌≤◌, ◌<◌}
 use Prim.Native.String.{String}
 use native.Mathlib.Omega.{arith}
-use native.Mathlib.Decide.{dec_lt, ℕ_discrete}
+use native.Mathlib.Decide.{dec_lt}
 use lib.Dec.{T, leb, ltb, eqb, le→leb, leb→le, eqb→eq, T_not}
 use lib.ListN.{length, take, drop, get_or, get_or-eq_default}
 use lib.Seq.{take_all}
@@ -17,10 +18,9 @@ use Rattle.patterns.proofs.Tests.{T_of, of_T, and_l, and_r, and_t, or_cases, imp
 use Rattle.patterns.proofs.Table.{every, at, below, below_law, byte_law, small, subset, within_is, within_of}
 use Rattle.patterns.proofs.Runs.{run_all}
 use Rattle.patterns.proofs.Words.{same_is, same_self}
-use Rattle.tables.specs.TokenKinds.{IDENT, LPAREN, SEMI}
+use Rattle.tables.specs.TokenKinds.{LPAREN, SEMI}
 use Rattle.lexer.specs.Kinds.{texts, fixed_of}
-use Rattle.lexer.specs.Classes.{kind_from, next_of, pair_of, class_of, Table, key_of, KeyTable}
-use Rattle.lexer.specs.Scans.{KindIs, kind, no_kind}
+use Rattle.lexer.specs.Classes.{kind_from, next_of, pair_of, class_of, Table, key_of, KeyTable, KindIs, kind, no_kind}
 
 -- ---- kinds
 pub kind_law : (f : ℕ → Bool) → T (below 51 f) → (k : ℕ) → k < 51 → T (f k)
@@ -81,11 +81,11 @@ keyword_size j a b =
     within_is 2 8 _ (modus (within 2 19 j) _ (kind_law (λ j. implies (within 2 19 j) (within 2 8 (length (fixed_of j)))) tt j (omega arith)) (within_of 2 19 j a b))
 
 module _ {w : List ℕ} where
-  pub too_short : length w < 2 → KindIs 2 19 IDENT w IDENT
-  too_short h = no_kind refl (λ j a b e. omega (arith, keyword_size j a b, ap length e))
+  pub too_short : length w < 2 → KindIs 2 19 w None
+  too_short h = no_kind (λ j a b e. omega (arith, keyword_size j a b, ap length e))
 
-  pub too_long : 8 < length w → KindIs 2 19 IDENT w IDENT
-  too_long h = no_kind refl (λ j a b e. omega (arith, keyword_size j a b, ap length e))
+  pub too_long : 8 < length w → KindIs 2 19 w None
+  too_long h = no_kind (λ j a b e. omega (arith, keyword_size j a b, ap length e))
 
 -- ---- marks of two bytes: the second byte goes by the first
 pairs : ℕ → Bool
@@ -104,27 +104,26 @@ next_is j b d h e =
     let u = and_r (eqb (next_of b) d) _ t in
     (eqb→eq (next_of b) d (and_l (eqb (next_of b) d) _ t), leb→le 1 (next_of b) (and_l (leb 1 (next_of b)) _ u), (λ q. T_not (eqb b 47) (and_r (leb 1 (next_of b)) _ u) (subst (λ (x : ℕ). T (eqb x 47)) (sym q) tt)))
 
-pub no_pair : {b d n : ℕ} → n ≡ next_of b → (n ≡ d → ⊥) → KindIs 21 50 0 (b ∷ d ∷ []) 0
-no_pair {b} {d} e f = no_kind refl (λ j g h q. f (e ∙ (next_is j b d g q).0))
+pub no_pair : {b d n : ℕ} → n ≡ next_of b → (n ≡ d → ⊥) → KindIs 21 50 (b ∷ d ∷ []) None
+no_pair {b} {d} e f = no_kind (λ j g h q. f (e ∙ (next_is j b d g q).0))
 
-pub a_pair : {b d n k : ℕ} → b < 256 → n ≡ next_of b → n ≡ d → k ≡ pair_of b → KindIs 21 50 0 (b ∷ d ∷ []) k
+pub zero_pair : {b d k : ℕ} → b < 256 → k ≡ pair_of b → k ≡ 0 → KindIs 21 50 (b ∷ d ∷ []) None
 unfolding next_of pair_of fixed_of texts kind_from same starts
-a_pair {b} {d} {k = k} h e f q =
-    elim (ℕ_discrete (next_of b) 0) [
-      | yes z ↦
-          let t =
-          modus (eqb (next_of b) 0) _ (byte_law (λ b. implies (eqb (next_of b) 0) (eqb (pair_of b) 0)) tt b h) (T_of (eq-eqb _ 0 z)) in
-          no_kind (q ∙ eqb→eq _ 0 t) (λ j a c r. omega (arith, (next_is j b d a r).1))
-      | no z ↦
-          let t =
-          modus (leb 1 (next_of b)) _
-          (byte_law (λ b. implies (leb 1 (next_of b)) (within 21 50 (pair_of b) && same (fixed_of (pair_of b)) (b ∷ next_of b ∷ []))) tt b h)
-          (le→leb 1 (next_of b) (omega arith)) in
-          let r = within_is 21 50 (pair_of b) (and_l (within 21 50 (pair_of b)) _ t) in
-          let w : b ∷ next_of b ∷ [] ≡ fixed_of (pair_of b) = same_is _ _ (of_T _ (and_r (within 21 50 (pair_of b)) _ t)) in
-          let g : next_of b ≡ d = sym e ∙ f in
-          kind (omega (arith, r.0)) (omega (arith, r.1)) (ap (λ (x : ℕ). b ∷ x ∷ []) (sym g) ∙ w ∙ ap fixed_of (sym q))
-    ]
+zero_pair {b} {d} h q z =
+    let t = modus (eqb (pair_of b) 0) _ (byte_law (λ b. implies (eqb (pair_of b) 0) (eqb (next_of b) 0)) tt b h) (T_of (eq-eqb _ 0 (sym q ∙ z))) in
+    no_kind (λ j a c r. omega (arith, (next_is j b d a r).1, eqb→eq _ 0 t))
+
+pub a_pair : {b d n k : ℕ} → b < 256 → n ≡ next_of b → n ≡ d → k ≡ pair_of b → (k ≡ 0 → ⊥) → KindIs 21 50 (b ∷ d ∷ []) (Some k)
+unfolding next_of pair_of fixed_of texts kind_from same starts
+a_pair {b} {d} {k = k} h e f q z =
+    let t =
+    modus (leb 1 (pair_of b)) _
+    (byte_law (λ b. implies (leb 1 (pair_of b)) (within 21 50 (pair_of b) && same (fixed_of (pair_of b)) (b ∷ next_of b ∷ []))) tt b h)
+    (le→leb 1 (pair_of b) (omega arith)) in
+    let r = within_is 21 50 (pair_of b) (and_l (within 21 50 (pair_of b)) _ t) in
+    let w : b ∷ next_of b ∷ [] ≡ fixed_of (pair_of b) = same_is _ _ (of_T _ (and_r (within 21 50 (pair_of b)) _ t)) in
+    let g : next_of b ≡ d = sym e ∙ f in
+    kind (omega (arith, r.0)) (omega (arith, r.1)) (ap (λ (x : ℕ). b ∷ x ∷ []) (sym g) ∙ w ∙ ap fixed_of (sym q))
 
 -- none begins with a bracket, a comma or a semicolon
 pub lone_next : (b : ℕ) → b < 256 → within LPAREN SEMI (class_of b) ≡ true → next_of b ≡ 0
@@ -172,17 +171,17 @@ module _ {w l : List ℕ} (t : KeyTable l) (b : ℕ) (q : b ≡ key_of w) where
   only : (j : ℕ) → 2 ≤ j → j ≤ 19 → w ≡ fixed_of j → get_or l b 0 ≡ j
   only j a c e = ap (λ (i : ℕ). get_or l i 0) (q ∙ ap key_of e) ∙ t.some j a c
 
-  pub no_key : get_or l b 0 ≡ 0 → KindIs 2 19 IDENT w IDENT
-  no_key z = no_kind refl (λ j a c e. omega (arith, only j a c e))
+  pub no_key : get_or l b 0 ≡ 0 → KindIs 2 19 w None
+  no_key z = no_kind (λ j a c e. omega (arith, only j a c e))
 
   module _ (h : b < 256) (z : get_or l b 0 ≡ 0 → ⊥) {r : Bool}
       (s : r ≡ same (take ((get_or l b 0 * 9 + 256 + get_or l (get_or l b 0 * 9 + 256 + 8) 0) - (get_or l b 0 * 9 + 256)) (drop (get_or l b 0 * 9 + 256) l)) w) where
-    pub a_keyword : r ≡ true → KindIs 2 19 IDENT w (get_or l b 0)
+    pub a_keyword : r ≡ true → KindIs 2 19 w (Some (get_or l b 0))
     a_keyword x = let g = t.kind b h z in kind g.0 g.1 (same_is _ w (sym (s ∙ ap (λ (v : List ℕ). same v w) (spelt l t b h z)) ∙ x))
 
-    pub no_keyword : r ≡ false → KindIs 2 19 IDENT w IDENT
+    pub no_keyword : r ≡ false → KindIs 2 19 w None
     no_keyword x =
-        no_kind refl
+        no_kind
         (λ j c d e. false≢true (sym x ∙ s ∙ ap (λ (v : List ℕ). same v w) (spelt l t b h z ∙ ap fixed_of (only j c d e) ∙ sym e) ∙ same_self w))
 
 -- ---- classes

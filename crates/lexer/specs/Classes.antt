@@ -1,5 +1,5 @@
 -- Every byte's class: what it can begin, by the patterns of lexer.rs and, from 0x80 on, by the table of RFC 3629, section 3. Assumes nothing.
-use Rattle.std.specs.Prelude.{◌≡◌, cond, ◌&&◌, List, [], ◌∷◌, ℕ, suc, ◌+◌, ◌*◌, ◌%◌, ◌≤◌, ◌<◌, ltb, eqb, length, take, drop, get_or}
+use Rattle.std.specs.Prelude.{◌≡◌, cond, ◌&&◌, List, [], ◌∷◌, ℕ, suc, ◌+◌, ◌*◌, ◌%◌, ◌≤◌, ◌<◌, ltb, eqb, length, take, drop, get_or, Option, Some, None}
 use Prim.Native.String.{String}
 use Rattle.patterns.specs.Bytes.{bytes, within, same, in_set, white, letter, digit}
 use Rattle.lexer.specs.Kinds.{texts, fixed_of}
@@ -55,3 +55,8 @@ pub record KeyTable (l : List ℕ) : Type 0 where
   pub some : (j : ℕ) → 2 ≤ j → j ≤ 19 → get_or l (key_of (fixed_of j)) 0 ≡ j
   pub short : (j : ℕ) → 2 ≤ j → j ≤ 19 → get_or l (j * 9 + 256 + 8) 0 ≤ 8
   pub text : (j : ℕ) → 2 ≤ j → j ≤ 19 → take (get_or l (j * 9 + 256 + 8) 0) (drop (j * 9 + 256) l) ≡ fixed_of j
+
+-- of the kinds from a to e, the one whose text is w, if there is one
+pub data KindIs (a e : ℕ) (w : List ℕ) : Option ℕ → Type 0 where
+  kind : {k : ℕ} → a ≤ k → k ≤ e → w ≡ fixed_of k → KindIs a e w (Some k)
+  no_kind : ((j : ℕ) → a ≤ j → j ≤ e → w ≡ fixed_of j → ⊥) → KindIs a e w None

@@ -1,11 +1,13 @@
 -- The way through a text by longest match: its tokens and its lexical errors. Assumes nothing.
-use Rattle.std.specs.Prelude.{◌≡◌, List, [], ◌∷◌, ℕ, zero, suc, ◌+◌, drop, take}
+use Rattle.std.specs.Prelude.{◌≡◌, List, [], ◌∷◌, ℕ, zero, suc, ◌+◌, drop, take, Result, Ok, Err}
 use Rattle.tables.specs.Tables.{Token, Diagnostic}
 use Rattle.utf8.specs.Utf8.{Begins}
 use Rattle.numeral.specs.Numeral.{numeral_of}
 use Rattle.numeral.specs.declared.NumberLiteral.{NumberLiteral}
-use Rattle.numeral.specs.declared.NumberLiteral.TheVariants.{Number, Overflow, InvalidFormat}
+use Rattle.numeral.specs.declared.NumberParseError.{NumberParseError}
 use Rattle.tables.specs.TokenKinds.{NUMBER}
+use Rattle.tables.specs.Codes.{suffix_code, reason_code}
+use Rattle.tables.specs.declared.entry_codes.Reason.{Reason}
 use Rattle.lexer.specs.Tokens.{Best, Stuck}
 
 -- what stands at a place: something skipped, a token, or a lexical error
@@ -15,17 +17,17 @@ pub data Item : Type 0 where
   error : (reason : ℕ) → Item
 
 -- a match of kind k: a numeral is what its spelling says, and tokens other than numerals have 0 for suffix, base and value
-abbrev pub item_of : ℕ → NumberLiteral → Item
+abbrev pub item_of : ℕ → Result NumberLiteral NumberParseError → Item
 item_of zero a = skipped
-item_of (suc zero) (Number v x b) = token NUMBER x b v
-item_of (suc zero) Overflow = error 2
-item_of (suc zero) InvalidFormat = error 3
+item_of (suc zero) (Ok l) = token NUMBER (suffix_code l.suffix) l.base l.value
+item_of (suc zero) (Err NumberParseError.Overflow) = error (reason_code Reason.Overflow)
+item_of (suc zero) (Err NumberParseError.InvalidFormat) = error (reason_code Reason.Format)
 item_of (suc (suc k)) a = token (suc (suc k)) 0 0 0
 
 -- the first n bytes of s are the longest match, or the whole character that begins no token: one lexical error
 pub data Step (s : List ℕ) (n : ℕ) (i : Item) : Type 0 where
   matched : (k : ℕ) → Best s k n → i ≡ item_of k (numeral_of (take n s)) → Step s n i
-  strange : (c : ℕ) → Stuck s → Begins s c n → i ≡ error 1 → Step s n i
+  strange : (c : ℕ) → Stuck s → Begins s c n → i ≡ error (reason_code Reason.Character) → Step s n i
 
 -- an item that stands from a to e, before those that follow
 abbrev pub tokens : Item → ℕ → ℕ → List Token → List Token

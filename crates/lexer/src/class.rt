@@ -1,6 +1,12 @@
 // What each byte can begin, and which words can be keywords, in tables of 256 entries.
-ghost use Rattle.lexer.specs.Classes.{class_of, next_of, pair_of, Table, KeyTable};
+ghost use Rattle.std.specs.Prelude.{◌≡◌, [], ◌∷◌, ◌+◌, ◌*◌, ◌%◌, ◌≤◌, ◌<◌, length};
+ghost use Rattle.std.specs.List.{prefix_len};
+ghost use Rattle.patterns.specs.Bytes.{in_set, word, run};
+ghost use Rattle.lexer.specs.Classes.{class_of, next_of, pair_of, Table, KeyTable, KindIs};
 
+use patterns::is_word;
+
+// A class below STRANGE that is not WHITE is the number of a mark's kind.
 pub const WHITE: u8 = 1;
 
 // From here up to LETTER no token begins.
@@ -27,7 +33,7 @@ const CLASS: [u8; 256] = [
     129, 129, 129, 129, 129,
 ];
 
-// By a mark's first byte: the byte that makes it a mark of two bytes, and the kind of that; 0 where there is none.
+// By a mark's first byte: the byte that makes it a mark of two bytes, and the kind of that; 0 where there is none. Pairs in one table would be no plainer: 256 of them, of which 8 say something.
 const NEXT: [u8; 256] = [
     0, 0, 0, 0, 0, 0, 0, 0, 0, 0, 0, 0, 0, 0, 0, 0, 0, 0, 0, 0, 0, 0, 0, 0, 0, 0, 0, 0, 0, 0, 0, 0,
     0, 61, 0, 0, 0, 0, 38, 0, 0, 0, 0, 0, 0, 62, 0, 0, 0, 0, 0, 0, 0, 0, 0, 0, 0, 0, 58, 0, 61, 61,
@@ -52,7 +58,7 @@ const PAIR: [u8; 256] = [
     0, 0, 0, 0, 0,
 ];
 
-// By the key of a word's first two bytes and length: the keyword with that key, or 0. From 256 on, nine entries for each kind: its keyword's bytes, and how many they are.
+// By the key of a word's first two bytes and length: the keyword with that key, or 0. From 256 on, nine entries for each kind: its keyword's bytes, and how many they are. They are bytes and no slices, as the archive has no memory that is set up when it is loaded.
 const KEY: [u8; 436] = [
     0, 0, 0, 0, 0, 0, 0, 0, 0, 0, 0, 0, 0, 0, 0, 0, 5, 0, 0, 0, 0, 0, 0, 0, 0, 0, 0, 0, 0, 0, 0, 0,
     0, 0, 0, 0, 0, 0, 0, 0, 0, 0, 0, 0, 0, 0, 0, 0, 0, 0, 0, 0, 0, 0, 0, 0, 0, 0, 0, 0, 0, 0, 0, 7,
@@ -72,27 +78,102 @@ const KEY: [u8; 436] = [
     101, 0, 0, 0, 0, 0, 3,
 ];
 
-// The tables are made once and lent on: a constant array is made anew wherever it is named.
-pub fn classes() -> [u8; 256]
-    ensures { Table class_of result }
-{
-    CLASS
+// The tables are made once for a call and lent on: a constant array is made anew wherever it is named.
+#[derive(Drop)]
+pub struct Tables {
+    classes: [u8; 256],
+    nexts: [u8; 256],
+    pairs: [u8; 256],
+    keys: [u8; 436],
+    ghost class_table: { Table class_of classes },
+    ghost next_table: { Table next_of nexts },
+    ghost pair_table: { Table pair_of pairs },
+    ghost key_table: { KeyTable keys },
 }
 
-pub fn nexts() -> [u8; 256]
-    ensures { Table next_of result }
-{
-    NEXT
+impl Tables {
+    pub fn new() -> Self {
+        Tables {
+            classes: CLASS,
+            nexts: NEXT,
+            pairs: PAIR,
+            keys: KEY,
+        }
+    }
+
+    // What a byte can begin.
+    pub fn class(&self, b: u8) -> u8
+        ensures { result ≡ class_of b }
+    {
+        self.classes[b as usize]
+    }
+
+    // A letter, a digit or `_`.
+    fn in_word(&self, b: u8) -> bool
+        ensures { result ≡ in_set word b }
+    {
+        self.class(b) >= LETTER
+    }
+
+    // How many bytes from the start are such.
+    fn word_within(&self, t: &[u8]) -> usize
+        ensures { result ≡ prefix_len (in_set word) t.now }
+    {
+        t.iter().take_while(|b| self.in_word(**b)).count()
+    }
+
+    // The same four bytes at a time, a name's or a numeral's size: LLVM unrolls what it reads of each four.
+    pub fn word_run(&self, t: &[u8]) -> usize
+        ensures { result ≡ run (in_set word) t.now }
+    {
+        let mut i = 0;
+        for four in t.chunks_exact(4) {
+            let n = self.word_within(four);
+            if n < 4 {
+                return i + n;
+            }
+            i += 4;
+        }
+        i + self.word_within(&t[i..])
+    }
+
+    // The kind of the keyword that a word is. It is compared with the one keyword that has its key; most names have no keyword's.
+    pub fn keyword(&self, w: &[u8]) -> Option<u8>
+        ensures { KindIs 2 19 w.now result }
+    {
+        let n = w.len();
+        if n < 2 || n > 8 {
+            return None;
+        }
+        let k = self.keys[key(w[0], w[1], n)];
+        if k == 0 {
+            return None;
+        }
+        let at = (k as usize) * 9 + 256;
+        let size = self.keys[at + 8] as usize;
+        // `==` of slices would call the C library from four bytes on.
+        if is_word(w, &self.keys[at..at + size]) {
+            return Some(k);
+        }
+        None
+    }
+
+    // The kind of the mark of two bytes that b and d are.
+    pub fn pair_of(&self, b: u8, d: u8) -> Option<u8>
+        ensures { KindIs 21 50 (b ∷ d ∷ []) result }
+    {
+        let kind = self.pairs[b as usize];
+        if self.nexts[b as usize] != d || kind == 0 {
+            return None;
+        }
+        Some(kind)
+    }
 }
 
-pub fn pairs() -> [u8; 256]
-    ensures { Table pair_of result }
+// The key of a word of n bytes that begins with these two.
+fn key(a: u8, b: u8, n: usize) -> usize
+    requires { n ≤ 8 }
+    ensures { (result ≡ (a * 3 + b * 10 + n * 4) % 256) × (result < 256) }
 {
-    PAIR
-}
-
-pub fn keys() -> [u8; 436]
-    ensures { KeyTable result }
-{
-    KEY
+    ((a as usize) * 3 + (b as usize) * 10 + n * 4) % 256
 }

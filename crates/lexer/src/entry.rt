@@ -1,44 +1,53 @@
 // Lexing alone, with 01's outcomes.
-ghost use Rattle.std.specs.Prelude.{length};
-ghost use Rattle.lexer.specs.Answers.{AnswerIs};
+ghost use Rattle.std.specs.Prelude.{◌≡◌, length};
+ghost use Rattle.lexer.specs.Answers.{AnswerIs, lex_error};
 
-use super::lexing::{Lexed, lex};
-use tables::clear_from;
-use token::room;
+use super::lexing::{TextError, lex};
+use tables::{Entry, Token, clear_from};
 
 #[derive(Clone, Copy)]
-pub enum Answer {
-    Accepted { tokens: usize, unknown: usize },
+pub struct LexedAlone {
+    pub tokens: usize,
+    pub unknown: usize,
+}
+
+#[derive(Clone, Copy)]
+pub enum LexError {
     Long,
     Encoding,
     Lexical(usize),
     TokenRoom(usize),
 }
 
-pub fn lex_alone(text: &[u8], tokens: &mut [u8], diagnostics: &mut [u8]) -> Answer
-    ensures { AnswerIs text.now (length tokens.old) (length diagnostics.old) tokens.new diagnostics.new result }
-{
-    let r = lex(text, tokens, diagnostics);
-    match r {
-        Lexed::Long => Answer::Long,
-        Lexed::Encoding => Answer::Encoding,
-        Lexed::Done {
-            tokens: t,
-            unknown: u,
-            diagnostics: d,
-        } => {
-            if d > 0 {
-                clear_from(tokens, 0);
-                return Answer::Lexical(d);
-            }
-            if t > room(tokens) {
-                clear_from(tokens, 0);
-                return Answer::TokenRoom(t);
-            }
-            Answer::Accepted {
-                tokens: t,
-                unknown: u,
-            }
+impl From<TextError> for LexError {
+    ghost from_gives = { λ e r. r ≡ lex_error e };
+
+    fn from(e: TextError) -> LexError {
+        match e {
+            TextError::Long => LexError::Long,
+            TextError::Encoding => LexError::Encoding,
         }
     }
+}
+
+pub fn lex_alone(
+    text: &[u8],
+    tokens: &mut [u8],
+    diagnostics: &mut [u8],
+) -> Result<LexedAlone, LexError>
+    ensures { AnswerIs text.now (length tokens.old) (length diagnostics.old) tokens.new diagnostics.new result }
+{
+    let lexed = lex(text, tokens, diagnostics)?;
+    if lexed.diagnostics > 0 {
+        clear_from(tokens, 0);
+        return Err(LexError::Lexical(lexed.diagnostics));
+    }
+    if lexed.tokens > Token::room(tokens) {
+        clear_from(tokens, 0);
+        return Err(LexError::TokenRoom(lexed.tokens));
+    }
+    Ok(LexedAlone {
+        tokens: lexed.tokens,
+        unknown: lexed.unknown,
+    })
 }

@@ -6,5 +6,5 @@ mod entry;
 mod lexing;
 mod scan;
 
-pub use entry::{Answer, lex_alone};
-pub use lexing::{Lexed, lex};
+pub use entry::{LexError, LexedAlone, lex_alone};
+pub use lexing::{Lexed, TextError, lex};

@@ -1,7 +1,8 @@
 // A case of the lexing entry.
-use case_io::{field, stray, words};
-use std::io;
+use case_io::{TokenRow, stray};
 use std::io::Write;
+use std::{fmt, io};
+use tables::{Diagnostic, Entry, Token};
 
 // The tables are full of another byte before the call.
 pub fn answer<W: Write>(
@@ -12,20 +13,16 @@ pub fn answer<W: Write>(
 ) -> io::Result<()> {
     let mut tokens = [0xAAu8; 16384];
     let mut diagnostics = [0xAAu8; 16384];
-    if token_bytes > 16384 {
-        return Ok(());
+    match (
+        tokens.get_mut(..token_bytes),
+        diagnostics.get_mut(..diagnostic_bytes),
+    ) {
+        (Some(tokens), Some(diagnostics)) => lexed(out, text, tokens, diagnostics),
+        _ => Ok(()),
     }
-    if diagnostic_bytes > 16384 {
-        return Ok(());
-    }
-    lexed(
-        out,
-        text,
-        &mut tokens[0..token_bytes],
-        &mut diagnostics[0..diagnostic_bytes],
-    )
 }
 
+// The outcome, the counts, for each table the bytes that should be zero and are not, then each token and each diagnostic.
 fn lexed<W: Write>(
     out: &mut W,
     text: &[u8],
@@ -41,77 +38,34 @@ fn lexed<W: Write>(
         &mut token_count,
         &mut diagnostic_count,
     );
-    print_counts(out, outcome, token_count, diagnostic_count)?;
-    print_tables(
+    // Only its own outcome uses a table.
+    let (t, d) = match outcome {
+        0 => (token_count.min(Token::room(tokens)), 0),
+        3 => (0, diagnostic_count.min(Diagnostic::room(diagnostics))),
+        _ => (0, 0),
+    };
+    write!(
         out,
-        tokens,
-        stored(outcome, 0, token_count, token::room(tokens)),
-        diagnostics,
-        stored(outcome, 3, diagnostic_count, diagnostic::room(diagnostics)),
-    )
-}
-
-fn print_counts<W: Write>(
-    out: &mut W,
-    outcome: u32,
-    token_count: usize,
-    diagnostic_count: usize,
-) -> io::Result<()> {
-    words(out, b"l")?;
-    field(out, b' ', outcome as u64)?;
-    field(out, b' ', token_count as u64)?;
-    field(out, b' ', diagnostic_count as u64)
-}
-
-// For each table the bytes that should be zero and are not, then each token and each diagnostic.
-fn print_tables<W: Write>(
-    out: &mut W,
-    tokens: &[u8],
-    t: usize,
-    diagnostics: &[u8],
-    d: usize,
-) -> io::Result<()> {
-    field(out, b' ', stray(tokens, t, 16, 7, 8) as u64)?;
-    field(out, b' ', stray(diagnostics, d, 8, 5, 8) as u64)?;
-    print_tokens(out, tokens, t)?;
-    print_diagnostics(out, diagnostics, d)
-}
-
-// How many entries of a table are used, which only its own outcome does.
-fn stored(outcome: u32, own: u32, count: usize, room: usize) -> usize {
-    if outcome != own {
-        return 0;
+        "l {outcome} {token_count} {diagnostic_count} {} {}",
+        stray(tokens, t, Token::SIZE, 7..8),
+        stray(diagnostics, d, Diagnostic::SIZE, 5..8)
+    )?;
+    for i in 0..t {
+        write!(out, " t{}", TokenRow(Token::at(tokens, i)))?;
     }
-    if count < room { count } else { room }
-}
-
-fn print_tokens<W: Write>(out: &mut W, table: &[u8], used: usize) -> io::Result<()> {
-    for i in 0..used {
-        print_token(out, table, i)?;
+    for i in 0..d {
+        write!(out, " d{}", DiagnosticRow(Diagnostic::at(diagnostics, i)))?;
     }
     Ok(())
 }
 
-fn print_token<W: Write>(out: &mut W, table: &[u8], i: usize) -> io::Result<()> {
-    words(out, b" ")?;
-    field(out, b't', token::kind(table, i) as u64)?;
-    field(out, b',', token::suffix(table, i) as u64)?;
-    field(out, b',', token::start(table, i) as u64)?;
-    field(out, b',', token::end(table, i) as u64)?;
-    field(out, b',', token::value(table, i))?;
-    field(out, b',', token::base(table, i) as u64)
-}
+// A diagnostic as the case files spell it.
+#[derive(Clone, Copy)]
+struct DiagnosticRow(Diagnostic);
 
-fn print_diagnostics<W: Write>(out: &mut W, table: &[u8], used: usize) -> io::Result<()> {
-    for i in 0..used {
-        print_diagnostic(out, table, i)?;
+impl fmt::Display for DiagnosticRow {
+    fn fmt<W: fmt::Write>(&self, f: &mut fmt::Formatter<W>) -> fmt::Result {
+        let Diagnostic { start, end, reason } = self.0;
+        write!(f, "{start},{end},{reason}")
     }
-    Ok(())
-}
-
-fn print_diagnostic<W: Write>(out: &mut W, table: &[u8], i: usize) -> io::Result<()> {
-    words(out, b" ")?;
-    field(out, b'd', diagnostic::start(table, i) as u64)?;
-    field(out, b',', diagnostic::end(table, i) as u64)?;
-    field(out, b',', diagnostic::reason(table, i) as u64)
 }

@@ -4,61 +4,49 @@
 mod input;
 mod lexing;
 
-use case_io::{field, fill, line_end, number, words};
-use numeral::Answer;
-use std::io;
+use case_io::{Cases, fill, room};
+use input::bytes;
+use numeral::{NumberLiteral, NumberParseError, NumeralError};
 use std::io::Write;
+use std::{fmt, io};
+use tables::entry_codes::Reason;
 
 fn main(rt: HostRuntime) -> io::Result<()> {
-    let mut file = [0u8; 262144];
+    let mut file = room::<262144>();
     let n = fill(&mut rt.stdin(), &mut file)?;
-    lines(&mut rt.stdout(), &file[..n])
+    answers(&mut rt.stdout(), &file[..n])
 }
 
-fn lines<W: Write>(out: &mut W, file: &[u8]) -> io::Result<()> {
-    let mut at = 0;
-    while at < file.len() {
-        let end = line_end(file, at);
-        line(out, &file[at..end])?;
-        at = end + 1;
+fn answers<W: Write>(out: &mut W, file: &[u8]) -> io::Result<()> {
+    let mut cases = Cases { rest: file };
+    while let Some(case) = cases.line() {
+        answer(out, case)?;
     }
     Ok(())
 }
 
 // A heading is printed as it stands.
-fn line<W: Write>(out: &mut W, case: &[u8]) -> io::Result<()> {
-    if case.len() < 3 {
-        return Ok(());
+fn answer<W: Write>(out: &mut W, case: &[u8]) -> io::Result<()> {
+    match case {
+        [] | [_] | [_, _] => return Ok(()),
+        [b'u', _, spelled @ ..] => utf8_case(out, bytes(spelled).as_slice())?,
+        [b'n', _, spelled @ ..] => numeral_case(out, bytes(spelled).as_slice())?,
+        [b'l', _, rest @ ..] => lexing_case(out, Cases { rest })?,
+        _ => out.write_all(case)?,
     }
-    match case[0] {
-        b'u' => utf8_case(out, case)?,
-        b'n' => numeral_case(out, case)?,
-        b'l' => lexing_case(out, case)?,
-        _ => words(out, case)?,
-    }
-    words(out, b"\n")
+    writeln!(out)
 }
 
 // u BYTES: is_utf8, char_len.
-fn utf8_case<W: Write>(out: &mut W, case: &[u8]) -> io::Result<()> {
-    let mut space = [0u8; 65600];
-    let n = input::bytes(case, 2, &mut space);
-    let text = &space[0..n];
-    words(out, b"u")?;
-    field(out, b' ', utf8::is_utf8(text) as u64)?;
-    field(out, b' ', utf8::char_len(text) as u64)
+fn utf8_case<W: Write>(out: &mut W, text: &[u8]) -> io::Result<()> {
+    let valid = u8::from(utf8::is_utf8(text));
+    let len = utf8::char_len(text).unwrap_or(0);
+    write!(out, "u {valid} {len}")
 }
 
-// n BYTES: outcome, value, suffix, base and reason of the C entry, then the answer as an enum.
-fn numeral_case<W: Write>(out: &mut W, case: &[u8]) -> io::Result<()> {
-    let mut space = [0u8; 65600];
-    let n = input::bytes(case, 2, &mut space);
-    numeral_entry(out, &space[0..n])?;
-    numeral_answer(out, &space[0..n])
-}
-
-// The places for the answer hold something else before the call.
-fn numeral_entry<W: Write>(out: &mut W, spelling: &[u8]) -> io::Result<()> {
+// n BYTES: outcome, value, suffix, base and reason of the C entry, then the answer as an enum. The places for the answer
+// hold something else before the call.
+fn numeral_case<W: Write>(out: &mut W, spelling: &[u8]) -> io::Result<()> {
     let mut value: u64 = 0xAAAA_AAAA_AAAA_AAAA;
     let mut suffix: u8 = 0xAA;
     let mut base: u8 = 0xAA;
@@ -70,41 +58,42 @@ fn numeral_entry<W: Write>(out: &mut W, spelling: &[u8]) -> io::Result<()> {
         &mut base,
         &mut reason,
     );
-    words(out, b"n")?;
-    field(out, b' ', outcome as u64)?;
-    field(out, b' ', value)?;
-    field(out, b' ', suffix as u64)?;
-    field(out, b' ', base as u64)?;
-    field(out, b' ', reason as u64)
+    let answer = Shown(numeral::answer(spelling));
+    write!(out, "n {outcome} {value} {suffix} {base} {reason} {answer}")
 }
 
-fn numeral_answer<W: Write>(out: &mut W, spelling: &[u8]) -> io::Result<()> {
-    let answer = numeral::answer(spelling);
-    match answer {
-        Answer::Number {
-            value,
-            suffix,
-            base,
-        } => {
-            words(out, b" number")?;
-            field(out, b' ', value)?;
-            field(out, b' ', suffix as u64)?;
-            field(out, b' ', base as u64)
-        }
-        Answer::Long => words(out, b" long"),
-        Answer::Spelling => words(out, b" spelling"),
-        Answer::Lexical { reason } => {
-            words(out, b" lexical")?;
-            field(out, b' ', reason as u64)
+// An answer in words.
+#[derive(Clone, Copy)]
+struct Shown(Result<NumberLiteral, NumeralError>);
+
+impl fmt::Display for Shown {
+    fn fmt<W: fmt::Write>(&self, f: &mut fmt::Formatter<W>) -> fmt::Result {
+        match self.0 {
+            Ok(literal) => {
+                let NumberLiteral {
+                    value,
+                    suffix,
+                    base,
+                } = literal;
+                write!(f, "number {value} {} {base}", suffix as u8)
+            }
+            Err(NumeralError::Long) => write!(f, "long"),
+            Err(NumeralError::Spelling) => write!(f, "spelling"),
+            Err(NumeralError::Lexical(error)) => {
+                let reason = match error {
+                    NumberParseError::Overflow => Reason::Overflow,
+                    NumberParseError::InvalidFormat => Reason::Format,
+                };
+                write!(f, "lexical {}", reason as u8)
+            }
         }
     }
 }
 
 // l T D BYTES: lexing with T bytes of token table and D bytes of diagnostics.
-fn lexing_case<W: Write>(out: &mut W, case: &[u8]) -> io::Result<()> {
-    let mut space = [0u8; 65600];
-    let tokens = number(case, 2);
-    let diagnostics = number(case, tokens.next);
-    let n = input::bytes(case, diagnostics.next, &mut space);
-    lexing::answer(out, &space[0..n], tokens.value, diagnostics.value)
+fn lexing_case<W: Write>(out: &mut W, mut case: Cases<'_>) -> io::Result<()> {
+    let token_bytes = case.number();
+    let diagnostic_bytes = case.number();
+    let text = bytes(case.rest);
+    lexing::answer(out, text.as_slice(), token_bytes, diagnostic_bytes)
 }

@@ -1,32 +1,19 @@
--- A test of every node in turn. Assumes nothing.
-use mathlib.Core.Path.{◌≡◌, refl, sym, ◌∙◌}
-use mathlib.Core.Bool.{Bool, true, false, ◌&&◌}
-use Prim.Native.Nat.{ℕ, ◌+◌, ◌/◌, ◌≤◌, ◌<◌}
-use mathlib.Core.List.{List}
+-- A test of every node. Assumes nothing.
+use mathlib.Core.Path.{◌≡◌, refl, sym, ap, ap₂, ◌∙◌}
+use mathlib.Core.Bool.{◌&&◌}
+use Prim.Native.Nat.{ℕ, zero, suc, ◌+◌}
+use native.Mathlib.Nat.{add-zero, zero-add}
 use native.Mathlib.Omega.{arith}
-use lib.ListN.{length, drop}
-use Rattle.tables.specs.Tables.{node_at, nodes_of}
-use Rattle.json_text.proofs.Arrays.{left_some, left_none}
+use Rattle.std.specs.List.{list_all, range_with_len}
+use Rattle.tables.specs.Tables.{Node, tabulate}
 use Rattle.listing.specs.Answers.{known, all_are_known}
 
--- every node before entry i is known
-pub record Knowing (t : List ℕ) (i : ℕ) : Type 0 where
-  pub rest : all_are_known (nodes_of t) ≡ all_are_known (drop i (nodes_of t))
+all_from : (n a : ℕ) (g h : ℕ → Node) → ((i : ℕ) → g (a + i) ≡ h i) → list_all (λ i. known (g i).kind) (range_with_len a n) ≡ all_are_known (tabulate n h)
+unfolding all_are_known tabulate
+all_from zero a g h e = refl
+all_from (suc n) a g h e =
+    ap₂ ◌&&◌ (ap (λ (x : Node). known x.kind) (ap g (sym (add-zero a)) ∙ e 0))
+    (all_from n (a + 1) g (λ i. h (suc i)) (λ i. let s : a + 1 + i ≡ a + suc i = omega arith in ap g s ∙ e (suc i)))
 
-known_next : (t : List ℕ) (i : ℕ) → i < length t / 16 → all_are_known (drop i (nodes_of t)) ≡ known (node_at t i).kind && all_are_known (drop (i + 1) (nodes_of t))
-unfolding nodes_of all_are_known
-known_next t i h = rw (left_some (length t / 16) (λ j. node_at t j) i h)
-
-module _ {t : List ℕ} where
-  pub knowing_none : Knowing t 0
-  knowing_none = record { rest = refl }
-
-  pub knowing_more : {n i k : ℕ} {b : Bool} → Knowing t i → n ≡ length t / 16 → i < n → k ≡ (node_at t i).kind → b ≡ known k → b ≡ true → Knowing t (i + 1)
-  knowing_more {i = i} p m h e f g = record { rest = p.rest ∙ known_next t i (omega arith) ∙ rw (← e, ← f, g) }
-
-  pub knowing_not : {n i k : ℕ} {b : Bool} → Knowing t i → n ≡ length t / 16 → i < n → k ≡ (node_at t i).kind → b ≡ known k → b ≡ false → false ≡ all_are_known (nodes_of t)
-  knowing_not {i = i} p m h e f g = sym (p.rest ∙ known_next t i (omega arith) ∙ rw (← e, ← f, g))
-
-  pub knowing_end : {n i : ℕ} → Knowing t i → n ≡ length t / 16 → n ≤ i → true ≡ all_are_known (nodes_of t)
-  unfolding nodes_of all_are_known
-  knowing_end {i = i} p m h = sym (p.rest ∙ rw (left_none (length t / 16) (λ j. node_at t j) i (omega arith)))
+pub all_known_is : (n : ℕ) (g : ℕ → Node) → list_all (λ i. known (g i).kind) (range_with_len 0 n) ≡ all_are_known (tabulate n g)
+all_known_is n g = all_from n 0 g g (λ i. ap g (zero-add i))

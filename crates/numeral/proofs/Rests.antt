@@ -1,6 +1,6 @@
 -- What the rest after the base's prefix says, and the whole spelling. Assumes nothing.
 use mathlib.Core.Path.{◌≡◌, refl, sym, ap, ◌∙◌}
-use mathlib.Core.Bool.{Bool, true, false, cond}
+use mathlib.Core.Bool.{Bool, true, false, cond, false≢true}
 use mathlib.Core.Logic.{◌⊎◌, inl, inr}
 use mathlib.Core.List.{List, [], ◌∷◌}
 use Prim.Native.Nat.{ℕ, zero, suc, ◌+◌, ◌-◌, ◌*◌, ◌≤◌, ◌<◌}
@@ -8,52 +8,58 @@ use Prim.Native.Char.{Char, code}
 use native.Mathlib.Nat.{le_refl}
 use native.Mathlib.Omega.{arith}
 use native.Mathlib.Decide.{dec_le}
-use lib.Dec.{leb, ltb, eqb, lit<, lit≤, leb→le}
+use lib.Dec.{leb, ltb, eqb, eqb→eq, lit<, lit≤, leb→le}
 use lib.ListN.{length, take, drop, get_or, length-drop, drop_of_length-le, get_or-eq_default}
 use lib.Seq.{take_all, get_or-drop}
-use borrow.Author.Tests.{ltb-true, ne_eqb}
+use borrow.Author.Tests.{ltb-true, ltb-false, ne_eqb, eq-eqb}
 use Rattle.patterns.specs.Bytes.{bytes, within, in_set, either, run, starts}
 use Rattle.patterns.specs.Patterns.{All}
-use Rattle.patterns.proofs.Tests.{and_no}
+use Rattle.patterns.proofs.Tests.{T_of, and_no}
 use Rattle.patterns.proofs.Runs.{rest_is}
 use Rattle.patterns.proofs.Words.{starts_long, starts_byte}
 use Rattle.numeral.specs.declared.NumberLiteral.{NumberLiteral}
-use Rattle.numeral.specs.declared.NumberLiteral.TheVariants.{Number, Overflow, InvalidFormat}
+use Rattle.numeral.specs.declared.NumberParseError.{NumberParseError}
+use Rattle.std.proofs.Common.{◌==◌, None, Result, Ok, Err}
+use Rattle.tables.specs.declared.entry_codes.Suffix.{Suffix}
 use Rattle.numeral.specs.Numeral.{most, base_of, digit_of, digit_in, last_below, last_of, cut_of, suffix_kind, reading, read_to, rest_of, numeral_of}
-use Rattle.numeral.proofs.Digits.{is_digit, no_digit}
-use Rattle.numeral.proofs.Cuts.{cut_none}
+use Rattle.std.specs.Char.{digit_value}
+use Rattle.numeral.proofs.Digits.{value_is, is_digit, no_digit}
+use Rattle.numeral.proofs.Cuts.{run_is, cut_none}
+
+abbrev Read : Type 0
+Read = Result NumberLiteral NumberParseError
 
 -- ---- by the cut
-pub rest_empty : (base : ℕ) (s : List ℕ) → length s ≡ 0 → InvalidFormat ≡ rest_of base s
+pub rest_empty : (base : ℕ) (s : List ℕ) (r : Bool) → r ≡ (length s == 0) → r ≡ true → Err NumberParseError.InvalidFormat ≡ rest_of base s
 unfolding rest_of read_to cut_of last_of last_below run
-rest_empty base [] h = refl
-rest_empty base (b ∷ s) h = absurd (omega arith)
+rest_empty base [] r e h = refl
+rest_empty base (b ∷ s) r e h = absurd (omega (arith, eqb→eq (length (b ∷ s)) 0 (T_of (sym e ∙ h))))
 
 module _ (base : ℕ) (s : List ℕ) (k : ℕ) (e : k ≡ cut_of base s) where
-  pub rest_start : k ≡ 0 → InvalidFormat ≡ rest_of base s
+  pub rest_start : k ≡ 0 → Err NumberParseError.InvalidFormat ≡ rest_of base s
   unfolding rest_of read_to
   rest_start h = rw (← e, h)
 
-  pub rest_digit : (d : ℕ) → (k ≡ 0 → ⊥) → d ≡ digit_of (get_or s k 0) → d < 10 → InvalidFormat ≡ rest_of base s
+  pub rest_digit : (r : Bool) → (k ≡ 0 → ⊥) → r ≡ ltb (digit_value (get_or s k 0)) 10 → r ≡ true → Err NumberParseError.InvalidFormat ≡ rest_of base s
   unfolding rest_of read_to
-  rest_digit d h p q = rw (← e, ne_eqb k 0 h, is_digit 10 (get_or s k 0) d p q)
+  rest_digit r h p q = rw (← e, ne_eqb k 0 h, is_digit 10 (get_or s k 0) _ (value_is (get_or s k 0)) (ltb-true _ _ (sym p ∙ q)))
 
-  pub rest_name : (d x : ℕ) (r : NumberLiteral) → (k ≡ 0 → ⊥) → d ≡ digit_of (get_or s k 0) → 10 ≤ d → x ≡ suffix_kind (take (length s - k) (drop k s)) → r ≡ reading base x 0 (take k s) → r ≡ rest_of base s
+  pub rest_name : (d : Bool) (x : Suffix) (r : Read) → (k ≡ 0 → ⊥) → d ≡ ltb (digit_value (get_or s k 0)) 10 → d ≡ false → x ≡ suffix_kind (take (length s - k) (drop k s)) → r ≡ reading base x 0 (take k s) → r ≡ rest_of base s
   unfolding rest_of read_to
-  rest_name d x r h p q t u = u ∙ rw (t, ← e, ne_eqb k 0 h, no_digit 10 (get_or s k 0) d p q, rest_is)
+  rest_name d x r h p q t u = u ∙ rw (t, ← e, ne_eqb k 0 h, no_digit 10 (get_or s k 0) _ (value_is (get_or s k 0)) (ltb-false _ _ (sym p ∙ q)), rest_is)
 
-  pub rest_end : (r : NumberLiteral) → (k ≡ 0 → ⊥) → length s ≤ k → r ≡ reading base 0 0 s → r ≡ rest_of base s
+  pub rest_end : (r : Read) → (k ≡ 0 → ⊥) → length s ≤ k → r ≡ reading base Suffix.Absent 0 s → r ≡ rest_of base s
   unfolding rest_of read_to digit_in digit_of suffix_kind
   rest_end r h p u = u ∙ rw (← e, ne_eqb k 0 h, get_or-eq_default s 0 p, drop_of_length-le s p, take_all k s p)
 
 -- ---- a rest that is all digits, and the base that is told: neither word occurs in it, since l and u are no digits
-digits_all : (base x v : ℕ) (s : List ℕ) (a b d : ℕ) → reading base x v s ≡ Number a b d → All (digit_in base) s × (d ≡ base)
+digits_all : (base : ℕ) (x : Suffix) (v : ℕ) (s : List ℕ) (n : NumberLiteral) → reading base x v s ≡ Ok n → All (digit_in base) s × (n.base ≡ base)
 unfolding reading
-digits_all base x v [] a b d e = (tt, cc)
-digits_all base x v (c ∷ s) a b d e = go (digit_in base c) refl (ltb most (v * base + digit_of c)) e (digits_all base x (v * base + digit_of c) s a b d)
+digits_all base x v [] n e = (tt, cc)
+digits_all base x v (c ∷ s) n e = go (digit_in base c) refl (ltb most (v * base + digit_of c)) e (digits_all base x (v * base + digit_of c) s n)
   where
-    go : (t : Bool) → digit_in base c ≡ t → (o : Bool) → cond t (cond o Overflow (reading base x (v * base + digit_of c) s)) InvalidFormat ≡ Number a b d
-        → (reading base x (v * base + digit_of c) s ≡ Number a b d → All (digit_in base) s × (d ≡ base)) → All (digit_in base) (c ∷ s) × (d ≡ base)
+    go : (t : Bool) → digit_in base c ≡ t → (o : Bool) → cond t (cond o (Err NumberParseError.Overflow) (reading base x (v * base + digit_of c) s)) (Err NumberParseError.InvalidFormat) ≡ Ok n
+        → (reading base x (v * base + digit_of c) s ≡ Ok n → All (digit_in base) s × (n.base ≡ base)) → All (digit_in base) (c ∷ s) × (n.base ≡ base)
     go true p true e f = absurd (let z : ◌≡◌ {A = ℕ} 0 1 = cc in omega arith)
     go true p false e f = ((p, (f e).0), (f e).1)
     go false p o e f = absurd (let z : ◌≡◌ {A = ℕ} 0 1 = cc in omega arith)
@@ -80,12 +86,13 @@ no_word base w s j b a h e (suc k) = go (starts w (drop k s)) refl (no_word base
         absurd (omega (arith, ltb-true (digit_of (get_or s (k + j) 0)) base (all_at (digit_in base) s (k + j) a i), ap digit_of q))
     go false p r = r
 
-pub rest_whole : (base : ℕ) (s : List ℕ) (r : NumberLiteral) (v x d : ℕ) → base ≤ 16 → (length s ≡ 0 → ⊥) → r ≡ reading base 0 0 s → r ≡ Number v x d → r ≡ rest_of base s
+pub rest_whole : (base : ℕ) (s : List ℕ) (n : NumberLiteral) → base ≤ 16 → (z : Bool) → z ≡ (length s == 0) → z ≡ false → Ok n ≡ reading base Suffix.Absent 0 s → Ok n ≡ rest_of base s
 unfolding last_of digit_of
-rest_whole base s r v x d b h e n =
-    let a = (digits_all base 0 0 s v x d (sym e ∙ n)).0 in
-    let c = cut_none base s (length s) (length s) (length s) (no_word base (bytes "felt") s 2 b a (lit< tt) (lit≤ tt) (length s)) (no_word base (bytes "u32") s 0 b a (lit< tt) (lit≤ tt) (length s)) (sym (run_whole (digit_in base) s a)) (le_refl _) (le_refl _) (le_refl _) (le_refl _) in
-    rest_end base s (length s) c r h (le_refl _) e
+rest_whole base s n b z f g e =
+    let h : length s ≡ 0 → ⊥ = λ l. false≢true (sym g ∙ f ∙ eq-eqb (length s) 0 l) in
+    let a = (digits_all base Suffix.Absent 0 s n (sym e)).0 in
+    let c = cut_none base s None None true (length s) (no_word base (bytes "felt") s 2 b a (lit< tt) (lit≤ tt) (length s)) (no_word base (bytes "u32") s 0 b a (lit< tt) (lit≤ tt) (length s)) refl refl (sym (run_is base s ∙ run_whole (digit_in base) s a)) in
+    rest_end base s (length s) c (Ok n) h (le_refl _) e
 
 -- ---- the base
 outside : (c b : ℕ) → (b ≡ c → ⊥) → within c c b ≡ false
@@ -103,6 +110,10 @@ base_short (a ∷ []) h = go (eqb a 48)
     go true = refl
     go false = refl
 base_short (a ∷ b ∷ s) h = absurd (omega arith)
+
+pub base_other : (s : List ℕ) → (get_or s 0 0 ≡ 48 → ⊥) → 10 ≡ base_of s
+unfolding base_of
+base_other s h = rw (ne_eqb (get_or s 0 0) 48 h)
 
 pub base_letter : (s : List ℕ) (r b c : ℕ) → get_or s 0 0 ≡ 48 → (get_or s 1 0 ≡ b) ⊎ (get_or s 1 0 ≡ c) → r ≡ base_of (48 ∷ b ∷ []) → r ≡ base_of (48 ∷ c ∷ []) → r ≡ base_of s
 unfolding base_of
@@ -127,20 +138,20 @@ base_small s = go (eqb (get_or s 0 0) 48) (in_set (either "x" "X") (get_or s 1 0
 pub base_long : (s : List ℕ) (r : ℕ) → r ≡ base_of s → (r ≡ 10 → ⊥) → 2 ≤ length s
 base_long s r e h = elim (dec_le 2 (length s)) [ yes p ↦ p | no p ↦ absurd (h (e ∙ sym (base_short s (omega arith)))) ]
 
-pub ten_is : (s : List ℕ) (b : ℕ) (r : NumberLiteral) → b ≡ base_of s → b ≡ 10 → r ≡ rest_of b s → r ≡ numeral_of s
+pub ten_is : (s : List ℕ) (b : ℕ) (r : Read) → b ≡ base_of s → b ≡ 10 → r ≡ rest_of b s → r ≡ numeral_of s
 unfolding numeral_of
 ten_is s b r e h p = p ∙ rw (← e, h)
 
-pub other_is : (s : List ℕ) (b : ℕ) (r : NumberLiteral) → b ≡ base_of s → (b ≡ 10 → ⊥) → r ≡ rest_of b (take (length s - 2) (drop 2 s)) → r ≡ numeral_of s
+pub other_is : (s : List ℕ) (b : ℕ) (r : Read) → b ≡ base_of s → (b ≡ 10 → ⊥) → r ≡ rest_of b (take (length s - 2) (drop 2 s)) → r ≡ numeral_of s
 unfolding numeral_of
 other_is s b r e h p = p ∙ rw (← e, ne_eqb b 10 h, rest_is)
 
 -- the base that an answer tells is the one that the spelling's beginning sets
-pub base_told : (s : List ℕ) {v x d : ℕ} → numeral_of s ≡ Number v x d → d ≡ base_of s
+pub base_told : (s : List ℕ) {n : NumberLiteral} → numeral_of s ≡ Ok n → n.base ≡ base_of s
 unfolding numeral_of rest_of read_to
-base_told s {v} {x} {d} e = let b = base_of s in let t = cond (eqb b 10) s (drop 2 s) in let k = cut_of b t in go (eqb k 0) (digit_in 10 (get_or t k 0)) (suffix_kind (drop k t)) (take k t) e
+base_told s {n} e = let b = base_of s in let t = cond (eqb b 10) s (drop 2 s) in let k = cut_of b t in go (eqb k 0) (digit_in 10 (get_or t k 0)) (suffix_kind (drop k t)) (take k t) e
   where
-    go : (f g : Bool) (y : ℕ) (t : List ℕ) → cond f InvalidFormat (cond g InvalidFormat (reading (base_of s) y 0 t)) ≡ Number v x d → d ≡ base_of s
+    go : (f g : Bool) (y : Suffix) (t : List ℕ) → cond f (Err NumberParseError.InvalidFormat) (cond g (Err NumberParseError.InvalidFormat) (reading (base_of s) y 0 t)) ≡ Ok n → n.base ≡ base_of s
     go true g y t e = absurd (let z : ◌≡◌ {A = ℕ} 0 1 = cc in omega arith)
     go false true y t e = absurd (let z : ◌≡◌ {A = ℕ} 0 1 = cc in omega arith)
-    go false false y t e = (digits_all (base_of s) y 0 t v x d e).1
+    go false false y t e = (digits_all (base_of s) y 0 t n e).1

@@ -1,9 +1,10 @@
 -- What a numeral's spelling says: its value, its suffix and its base, or why it has none. After lexer.rs's `parse_number_literal`. Assumes nothing.
-use Rattle.std.specs.Prelude.{Bool, cond, ◌&&◌, List, [], ◌∷◌, ℕ, zero, suc, ◌+◌, ◌-◌, ◌*◌, min, ltb, eqb, length, take, drop, get_or}
+use Rattle.std.specs.Prelude.{Bool, cond, ◌&&◌, List, [], ◌∷◌, ℕ, zero, suc, ◌+◌, ◌-◌, ◌*◌, min, ltb, eqb, length, take, drop, get_or, Result, Ok, Err}
 use Prim.Native.Char.{code}
 use Rattle.patterns.specs.Bytes.{bytes, within, in_set, either, run, starts, same}
 use Rattle.numeral.specs.declared.NumberLiteral.{NumberLiteral}
-use Rattle.numeral.specs.declared.NumberLiteral.TheVariants.{Number, Overflow, InvalidFormat}
+use Rattle.numeral.specs.declared.NumberParseError.{NumberParseError}
+use Rattle.tables.specs.declared.entry_codes.Suffix.{Suffix}
 
 -- the largest value: above it is an overflow
 abbrev pub most : ℕ
@@ -56,32 +57,33 @@ cut_of base s =
     (run (digit_in base) s)
     (min (cut_by (bytes "felt") s) (cut_by (bytes "u32") s))
 
--- suffix: 0 none, 1 felt, 2 u32, 3 other
-unfoldable pub suffix_kind : List ℕ → ℕ
+-- what stands from the cut on
+unfoldable pub suffix_kind : List ℕ → Suffix
 unfolding same
-suffix_kind s = cond (eqb (length s) 0) 0 (cond (same (bytes "felt") s) 1 (cond (same (bytes "u32") s) 2 3))
+suffix_kind s = cond (eqb (length s) 0) Suffix.Absent (cond (same (bytes "felt") s) Suffix.Felt (cond (same (bytes "u32") s) Suffix.U32 Suffix.Other))
 
 -- digits are read left to right, here after the value v and with the suffix x: a non-digit is a format error; else a value above 18446744073709551615 is an overflow
-unfoldable pub reading : ℕ → ℕ → ℕ → List ℕ → NumberLiteral
+unfoldable pub reading : ℕ → Suffix → ℕ → List ℕ → Result NumberLiteral NumberParseError
 unfolding digit_in digit_of
-reading base x v [] = Number v x base
+reading base x v [] = Ok (record { value = v; suffix = x; base = base })
 reading base x v (b ∷ s) =
     cond (digit_in base b)
-    (cond (ltb most (v * base + digit_of b)) Overflow (reading base x (v * base + digit_of b) s))
-    InvalidFormat
+    (cond (ltb most (v * base + digit_of b)) (Err NumberParseError.Overflow) (reading base x (v * base + digit_of b) s))
+    (Err NumberParseError.InvalidFormat)
 
 -- nothing before the cut k: format error; a suffix that begins with a digit: format error; then the digits
-unfoldable pub read_to : ℕ → ℕ → List ℕ → NumberLiteral
+unfoldable pub read_to : ℕ → ℕ → List ℕ → Result NumberLiteral NumberParseError
 unfolding reading suffix_kind digit_in digit_of
 read_to base k s =
-    cond (eqb k 0) InvalidFormat (cond (digit_in 10 (get_or s k 0)) InvalidFormat (reading base (suffix_kind (drop k s)) 0 (take k s)))
+    cond (eqb k 0) (Err NumberParseError.InvalidFormat)
+    (cond (digit_in 10 (get_or s k 0)) (Err NumberParseError.InvalidFormat) (reading base (suffix_kind (drop k s)) 0 (take k s)))
 
 -- what the rest says, in its base
-unfoldable pub rest_of : ℕ → List ℕ → NumberLiteral
+unfoldable pub rest_of : ℕ → List ℕ → Result NumberLiteral NumberParseError
 unfolding read_to cut_of
 rest_of base s = read_to base (cut_of base s) s
 
 -- a leading 0x, 0o or 0b is dropped
-unfoldable pub numeral_of : List ℕ → NumberLiteral
+unfoldable pub numeral_of : List ℕ → Result NumberLiteral NumberParseError
 unfolding rest_of base_of
 numeral_of s = rest_of (base_of s) (cond (eqb (base_of s) 10) s (drop 2 s))

@@ -1,39 +1,51 @@
 // The value, the suffix and the base of a numeral's spelling, after lexer.rs.
 #![tactic(auto)]
 
-mod outcome;
-
-ghost use Rattle.std.specs.Prelude.{◌≡◌, ◌+◌, ◌*◌, ◌≤◌, ◌<◌, min, ltb, length};
+ghost use Rattle.std.specs.Prelude.{◌≡◌, ◌+◌, ◌*◌, ◌≤◌, ◌<◌, unwrap_or, IfSome, ltb, length};
+ghost use Rattle.std.specs.Char.{is_digit};
+ghost use Rattle.std.specs.List.{list_all, take_while};
 ghost use Rattle.patterns.specs.Bytes.{in_set, word, run};
-ghost use Rattle.numeral.specs.Entry.{AnswerIs};
+ghost use Rattle.numeral.specs.Entry.{AnswerIs, reason_of};
 ghost use Rattle.numeral.specs.Steps.{spelled};
-ghost use Rattle.numeral.specs.Numeral.{most, base_of, digit_of, digit_in, last_of, cut_at, cut_of, suffix_kind, reading, rest_of, numeral_of};
+ghost use Rattle.numeral.specs.Numeral.{most, base_of, last_of, cut_at, cut_of, suffix_kind, reading, rest_of, numeral_of};
 
-pub use outcome::Answer;
 use patterns::{is_word, starts_with};
+use tables::entry_codes::{Reason, Suffix};
 
+// What a numeral says; the base is 16, 8, 2 or 10.
 #[derive(Clone, Copy)]
-pub enum NumberLiteral {
-    Number { value: u64, suffix: u8, base: u8 },
+pub struct NumberLiteral {
+    pub value: u64,
+    pub suffix: Suffix,
+    pub base: u8,
+}
+
+#[derive(Clone, Copy, PartialEq, Eq)]
+pub enum NumberParseError {
     Overflow,
     InvalidFormat,
 }
 
-const MOST: u64 = 0xFFFF_FFFF_FFFF_FFFF;
+impl From<NumberParseError> for Reason {
+    ghost from_gives = { λ e r. r ≡ reason_of e };
 
-// A digit's value; 36 for a byte that is none.
-fn digit_of(b: u8) -> u8
-    ensures { result ≡ digit_of b }
-{
-    match b {
-        b'0'..=b'9' => b - b'0',
-        b'a'..=b'z' => b - b'a' + 10,
-        b'A'..=b'Z' => b - b'A' + 10,
-        _ => 36,
+    fn from(e: NumberParseError) -> Reason {
+        match e {
+            NumberParseError::Overflow => Reason::Overflow,
+            NumberParseError::InvalidFormat => Reason::Format,
+        }
     }
 }
 
-// The next digit takes the value past 64 bits; below 2^60 none does.
+// Why the numeral entry refuses: too long, no spelling of a numeral, or a spelling that says no number.
+#[derive(Clone, Copy, PartialEq, Eq)]
+pub enum NumeralError {
+    Long,
+    Spelling,
+    Lexical(NumberParseError),
+}
+
+// The next digit takes the value past 64 bits; below 2^60 none does. Tried: checked_mul and checked_add, which take 7 to 22 % more instructions for a numeral.
 fn overflows(v: u64, base: u64, d: u64) -> bool
     requires { (base ≤ 16) × (d < base) }
     ensures { result ≡ ltb most (v * base + d) }
@@ -41,146 +53,121 @@ fn overflows(v: u64, base: u64, d: u64) -> bool
     if v < 0x1000_0000_0000_0000 {
         return false;
     }
-    v > (MOST - d) / base
+    v > (u64::MAX - d) / base
 }
 
 // The value of a run of digits.
-fn from_str_radix(number_str: &[u8], base: u8, suffix: u8) -> NumberLiteral
-    requires { base ≤ 16 }
+fn from_str_radix(
+    number_str: &[u8],
+    base: u8,
+    suffix: Suffix,
+) -> Result<NumberLiteral, NumberParseError>
+    requires { (2 ≤ base) × (base ≤ 16) }
     ensures { result ≡ reading base suffix 0 number_str.now }
 {
-    let radix = base as u64;
-    let mut v: u64 = 0;
-    let mut i = 0;
-    while i < number_str.len() {
-        let d = digit_of(number_str[i]) as u64;
-        if d >= radix {
-            return NumberLiteral::InvalidFormat;
+    let radix = u64::from(base);
+    let mut value: u64 = 0;
+    for b in number_str {
+        let Some(digit) = char::from(*b).to_digit(u32::from(base)) else {
+            return Err(NumberParseError::InvalidFormat);
+        };
+        let d = u64::from(digit);
+        if overflows(value, radix, d) {
+            return Err(NumberParseError::Overflow);
         }
-        if overflows(v, radix, d) {
-            return NumberLiteral::Overflow;
-        }
-        v = v * radix + d;
-        i += 1;
+        value = value * radix + d;
     }
-    NumberLiteral::Number {
-        value: v,
-        suffix: suffix,
-        base: base,
-    }
+    Ok(NumberLiteral {
+        value,
+        suffix,
+        base,
+    })
 }
 
-// The place where the word last occurs; the end if it does not.
-fn rfind(s: &[u8], w: &[u8]) -> usize
-    ensures { (result ≡ last_of w.now s.now) × (result ≤ length s.now) }
+// The place where the word last occurs.
+fn rfind(s: &[u8], w: &[u8]) -> Option<usize>
+    ensures value { unwrap_or result (length s.now) ≡ last_of w.now s.now }
+    ensures bound { IfSome result (λ k. k < length s.now) }
 {
-    let mut i = s.len();
-    while i > 0 {
-        i -= 1;
+    for i in (0..s.len()).rev() {
         if starts_with(&s[i..], w) {
-            return i;
+            return Some(i);
         }
     }
-    s.len()
+    None
 }
 
 // How many bytes from the start are digits of the base.
 fn digit_run(s: &[u8], base: u8) -> usize
-    ensures { result ≡ run (digit_in base) s.now }
+    requires { (2 ≤ base) × (base ≤ 16) }
+    ensures { result ≡ length (take_while (λ b. is_digit b base) s.now) }
 {
-    let mut i = 0;
-    while i < s.len() {
-        if digit_of(s[i]) >= base {
-            return i;
-        }
-        i += 1;
-    }
-    i
+    s.iter()
+        .take_while(|b| char::from(**b).is_digit(u32::from(base)))
+        .count()
 }
 
-// The cut of a word of m bytes that last occurs at k, in n bytes.
-fn cut_at(k: usize, m: usize, n: usize) -> usize
-    requires { k ≤ n }
-    ensures { result ≡ cut_at k m n }
+// The cut of a word of m bytes that last occurs there, in n bytes.
+fn cut_at(last: Option<usize>, m: usize, n: usize) -> usize
+    requires { IfSome last (λ k. k < n) }
+    ensures { result ≡ cut_at (unwrap_or last n) m n }
 {
-    if k == 0 {
-        return n;
+    match last {
+        Some(k) if k > 0 && n - k == m => k,
+        _ => n,
     }
-    if n - k == m {
-        return k;
-    }
-    n
-}
-
-// The smaller cut counts.
-fn smaller(a: usize, b: usize) -> usize
-    ensures { result ≡ min a b }
-{
-    if a < b {
-        return a;
-    }
-    b
 }
 
 // Where the number ends and the suffix begins.
 fn digit_end(s: &[u8], base: u8) -> usize
+    requires { (2 ≤ base) × (base ≤ 16) }
     ensures { result ≡ cut_of base s.now }
 {
     let n = s.len();
     let felt = rfind(s, b"felt");
     let word = rfind(s, b"u32");
-    let cut = smaller(cut_at(felt, 4, n), cut_at(word, 3, n));
-    if felt < n {
-        return cut;
+    if felt.or(word).is_none() {
+        return digit_run(s, base);
     }
-    if word < n {
-        return cut;
-    }
-    digit_run(s, base)
+    cut_at(felt, 4, n).min(cut_at(word, 3, n))
 }
 
-// 0 none, 1 felt, 2 u32, 3 other.
-fn suffix_kind(s: &[u8]) -> u8
+#[tactic(auto, unfolding(crate::specs::Numeral::suffix_kind))]
+fn suffix_kind(s: &[u8]) -> Suffix
     ensures { result ≡ suffix_kind s.now }
 {
-    if s.len() == 0 {
-        return 0;
+    if s.is_empty() {
+        Suffix::Absent
+    } else if is_word(s, b"felt") {
+        Suffix::Felt
+    } else if is_word(s, b"u32") {
+        Suffix::U32
+    } else {
+        Suffix::Other
     }
-    if is_word(s, b"felt") {
-        return 1;
-    }
-    if is_word(s, b"u32") {
-        return 2;
-    }
-    3
 }
 
 // What the rest after the base's prefix says.
-fn parse_remaining(remaining: &[u8], base: u8) -> NumberLiteral
-    requires { base ≤ 16 }
+fn parse_remaining(remaining: &[u8], base: u8) -> Result<NumberLiteral, NumberParseError>
+    requires { (2 ≤ base) × (base ≤ 16) }
     ensures { result ≡ rest_of base remaining.now }
 {
-    if remaining.len() == 0 {
-        return NumberLiteral::InvalidFormat;
+    if remaining.is_empty() {
+        return Err(NumberParseError::InvalidFormat);
     }
-    let whole = from_str_radix(remaining, base, 0);
-    if let NumberLiteral::Number {
-        value: _,
-        suffix: _,
-        base: _,
-    } = whole
-    {
-        return whole;
-    }
+    let error = match from_str_radix(remaining, base, Suffix::Absent) {
+        Ok(literal) => return Ok(literal),
+        Err(error) => error,
+    };
     let end = digit_end(remaining, base);
     if end == 0 {
-        return NumberLiteral::InvalidFormat;
+        return Err(NumberParseError::InvalidFormat);
     }
     if end >= remaining.len() {
-        return whole;
+        return Err(error);
     }
-    if digit_of(remaining[end]) < 10 {
-        return NumberLiteral::InvalidFormat;
+    if char::from(remaining[end]).is_digit(10) {
+        return Err(NumberParseError::InvalidFormat);
     }
     let suffix = suffix_kind(&remaining[end..]);
     from_str_radix(&remaining[..end], base, suffix)
@@ -188,24 +175,18 @@ fn parse_remaining(remaining: &[u8], base: u8) -> NumberLiteral
 
 // The base that a leading 0x, 0o or 0b sets.
 fn base_of(slice: &[u8]) -> u8
-    ensures { (result ≡ base_of slice.now) × (result ≤ 16) }
+    ensures { (result ≡ base_of slice.now) × (2 ≤ result) × (result ≤ 16) }
 {
-    if slice.len() < 2 {
-        return 10;
-    }
-    if slice[0] != b'0' {
-        return 10;
-    }
-    match slice[1] {
-        b'x' | b'X' => 16,
-        b'o' | b'O' => 8,
-        b'b' | b'B' => 2,
+    match slice {
+        [b'0', b'x' | b'X', ..] => 16,
+        [b'0', b'o' | b'O', ..] => 8,
+        [b'0', b'b' | b'B', ..] => 2,
         _ => 10,
     }
 }
 
 // What a numeral's spelling says.
-pub fn parse_number_literal(slice: &[u8]) -> NumberLiteral
+pub fn parse_number_literal(slice: &[u8]) -> Result<NumberLiteral, NumberParseError>
     ensures { result ≡ numeral_of slice.now }
 {
     let base = base_of(slice);
@@ -219,58 +200,34 @@ pub fn parse_number_literal(slice: &[u8]) -> NumberLiteral
 fn word_byte(b: u8) -> bool
     ensures { result ≡ in_set word b }
 {
-    if b == b'_' {
-        return true;
-    }
-    digit_of(b) < 36
+    b == b'_' || b.is_ascii_alphanumeric()
+}
+
+fn all_words(s: &[u8]) -> bool
+    ensures { result ≡ list_all (in_set word) s.now }
+{
+    s.iter().all(|b| word_byte(*b))
 }
 
 // A digit first, then letters, digits and `_`.
 fn is_spelling(s: &[u8]) -> bool
     ensures { result ≡ spelled s.now }
 {
-    if s.len() == 0 {
-        return false;
+    match s {
+        [b'0'..=b'9', ..] => all_words(s),
+        _ => false,
     }
-    if s[0] < b'0' {
-        return false;
-    }
-    if s[0] > b'9' {
-        return false;
-    }
-    let mut i = 0;
-    while i < s.len() {
-        if word_byte(s[i]) {
-            i += 1;
-        } else {
-            return false;
-        }
-    }
-    true
 }
 
 // The answer of the numeral entry.
-pub fn answer(spelling: &[u8]) -> Answer
+pub fn answer(spelling: &[u8]) -> Result<NumberLiteral, NumeralError>
     ensures { AnswerIs spelling.now result }
 {
     if spelling.len() > 65535 {
-        return Answer::Long;
+        return Err(NumeralError::Long);
     }
     if !is_spelling(spelling) {
-        return Answer::Spelling;
+        return Err(NumeralError::Spelling);
     }
-    let literal = parse_number_literal(spelling);
-    match literal {
-        NumberLiteral::Number {
-            value,
-            suffix,
-            base,
-        } => Answer::Number {
-            value,
-            suffix,
-            base,
-        },
-        NumberLiteral::Overflow => Answer::Lexical { reason: 2 },
-        NumberLiteral::InvalidFormat => Answer::Lexical { reason: 3 },
-    }
+    parse_number_literal(spelling).map_err(NumeralError::Lexical)
 }

@@ -4,6 +4,7 @@ use mathlib.Core.List.{List}
 use Prim.Native.Nat.{ℕ, ◌*◌, ◌/◌, ◌<◌, min}
 use native.Mathlib.Omega.{arith}
 use lib.ListN.{length, replicate}
+use Rattle.std.specs.Prelude.{Result as Answer, Ok, Err}
 use Rattle.tables.specs.Tables.{Token, Node, kept, table}
 use Rattle.tables.proofs.Laws.{tokens_length, cleared_all}
 use Rattle.grammar.specs.Derive.{Input, S, Out, got, begin, Derives}
@@ -11,10 +12,10 @@ use Rattle.grammar.specs.Grammar.{body, file, Tree, Deep, Stops}
 use Rattle.grammar.proofs.Unique.{unique, same}
 use Rattle.grammar.proofs.Whole.{tree_one, stops_one}
 use Rattle.cursor.specs.Entries.{input, entry_of}
-use Rattle.cursor.specs.Read.{Attempt, READING, Represents, reached, Result, matched, failed, exceeded, Reads, still, reads, start}
+use Rattle.cursor.specs.Read.{Attempt, READING, FAILED, DEEP, Represents, reached, Result, matched, failed, exceeded, Reads, still, reads, start}
 use Rattle.parser.specs.Parse.{Verdict, tree, syntax, deep, VerdictIs, is_deep, is_tree, is_syntax, answer_of, nodes_of, ParsedIs}
 use Rattle.cursor.specs.declared.Cursor.{Cursor}
-use Rattle.parser.specs.declared.Parsed.{Parsed}
+use Rattle.parser.specs.declared.ParseError.{ParseError}
 use Rattle.cursor.proofs.Cursors.{near}
 use Rattle.cursor.proofs.Holding.{holds_none, held}
 use Rattle.cursor.proofs.Laws.{clash, fine}
@@ -37,17 +38,17 @@ none_kept T U l e =
     let m : min 0 (length U / 16) * 16 ≡ 0 = omega arith in
     e ∙ rw m (cleared_all U ∙ ap (λ (n : ℕ). replicate n 0) l)
 
-module _ {text w : List ℕ} {p : Cursor} {r : Parsed} {T U W : List ℕ} where
-  pub too_deep : Reads file text w start T p U → (p.status ≡ READING → ⊥) → W ≡ kept 16 0 U → length U ≡ length T → r ≡ Parsed.Deep → ParsedIs text w (length T) W r
+module _ {text w : List ℕ} {p : Cursor} {r : Answer ℕ ParseError} {T U W : List ℕ} where
+  pub too_deep : Reads file text w start T p U → (p.status ≡ READING → ⊥) → W ≡ kept 16 0 U → length U ≡ length T → r ≡ Err ParseError.Deep → ParsedIs text w (length T) W r
   too_deep y n k l e = go (result y)
     where
       go : Result file text w start begin T p U → ParsedIs text w (length T) W r
       go (matched t z m v c f) = absurd (n z)
-      go (failed z c f) = absurd (fine y (omega arith) z)
+      go (failed z c f) = absurd (fine y (λ e. clash READING FAILED refl e (omega arith)) z)
       go (exceeded z c) =
           record { verdict = deep; is = is_deep (record { token = c.token; nest = c.nest; above = c.above; takes = c.takes }); answer = e; nodes = none_kept T U l k }
 
-  pub rejected : {n i : ℕ} → Reads file text w start T p U → p.status ≡ READING → n ≡ length w / 16 → (p.at ≡ n → ⊥) → W ≡ kept 16 0 U → length U ≡ length T → i ≡ reached p → r ≡ Parsed.Syntax i
+  pub rejected : {n i : ℕ} → Reads file text w start T p U → p.status ≡ READING → n ≡ length w / 16 → (p.at ≡ n → ⊥) → W ≡ kept 16 0 U → length U ≡ length T → i ≡ reached p → r ≡ Err (ParseError.Syntax i)
       → ParsedIs text w (length T) W r
   rejected y z m a k l i e = go (result y)
     where
@@ -55,11 +56,11 @@ module _ {text w : List ℕ} {p : Cursor} {r : Parsed} {T U W : List ℕ} where
       other v d ns us t = a (v.at ∙ ap (λ (x : S). x.at) (same (unique d t.derived)) ∙ t.all ∙ tokens_length w ∙ sym m)
 
       go : Result file text w start begin T p U → ParsedIs text w (length T) W r
-      go (matched t _ _ v c f) = record { verdict = syntax (reached p); is = is_syntax (shallow c) (other v c.derived) (stops c); answer = e ∙ ap Parsed.Syntax i; nodes = none_kept T U l k }
-      go (failed z' c f) = clash 1 0 z' z (omega arith)
-      go (exceeded z' c) = clash 2 0 z' z (omega arith)
+      go (matched t _ _ v c f) = record { verdict = syntax (reached p); is = is_syntax (shallow c) (other v c.derived) (stops c); answer = e ∙ ap (λ (k : ℕ). Err (ParseError.Syntax k)) i; nodes = none_kept T U l k }
+      go (failed z' c f) = clash FAILED READING z' z (omega arith)
+      go (exceeded z' c) = clash DEEP READING z' z (omega arith)
 
-  pub accepted : {n : ℕ} → Reads file text w start T p U → p.status ≡ READING → n ≡ length w / 16 → p.at ≡ n → length T < 0x1_0000_0000_0000_0000 → p.count < 0x1_0000_0000_0000_0000 → W ≡ kept 16 p.count U → length U ≡ length T → r ≡ Parsed.Tree p.count → ParsedIs text w (length T) W r
+  pub accepted : {n : ℕ} → Reads file text w start T p U → p.status ≡ READING → n ≡ length w / 16 → p.at ≡ n → length T < 0x1_0000_0000_0000_0000 → p.count < 0x1_0000_0000_0000_0000 → W ≡ kept 16 p.count U → length U ≡ length T → r ≡ Ok p.count → ParsedIs text w (length T) W r
   accepted y z m a b h k l e = go (result y)
     where
       go : Result file text w start begin T p U → ParsedIs text w (length T) W r
@@ -67,11 +68,11 @@ module _ {text w : List ℕ} {p : Cursor} {r : Parsed} {T U W : List ℕ} where
           record {
             verdict = tree t.nodes;
             is = is_tree (shallow c) (record { last = t; derived = c.derived; all = sym v.at ∙ a ∙ m ∙ sym (tokens_length w); these = refl; unknowns = refl });
-            answer = e ∙ ap Parsed.Tree (omega (arith, v.count.upto));
+            answer = e ∙ ap (λ (k : ℕ). Ok k) (omega (arith, v.count.upto));
             nodes = k ∙ held (omega arith) v.count (f (holds_none T)) ∙ ap (λ (n : ℕ). table 16 entry_of n t.nodes) l;
           }
-      go (failed z' c f) = clash 1 0 z' z (omega arith)
-      go (exceeded z' c) = clash 2 0 z' z (omega arith)
+      go (failed z' c f) = clash FAILED READING z' z (omega arith)
+      go (exceeded z' c) = clash DEEP READING z' z (omega arith)
 
 -- ---- determined
 
@@ -86,7 +87,7 @@ verdict_one (is_syntax n s i) (is_deep d) = absurd (n d)
 verdict_one (is_syntax n s i) (is_tree m t) = absurd (s _ _ t)
 verdict_one (is_syntax n s i) (is_syntax m u j) = ap syntax (stops_one i j)
 
-pub parsed_one : {text w : List ℕ} {n : ℕ} {U W : List ℕ} {r q : Parsed} → ParsedIs text w n U r → ParsedIs text w n W q → (r ≡ q) × (U ≡ W)
+pub parsed_one : {text w : List ℕ} {n : ℕ} {U W : List ℕ} {r q : Answer ℕ ParseError} → ParsedIs text w n U r → ParsedIs text w n W q → (r ≡ q) × (U ≡ W)
 parsed_one {n = n} a b =
     let e = verdict_one a.is b.is in
     (a.answer ∙ ap answer_of e ∙ sym b.answer, a.nodes ∙ ap (nodes_of n) e ∙ sym b.nodes)

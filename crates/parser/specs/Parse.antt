@@ -1,11 +1,11 @@
 -- What parsing answers: from a text, its tokens and the node table's length, the answer and every byte of that table. Assumes nothing.
-use Rattle.std.specs.Prelude.{◌≡◌, List, ℕ, min, length, replicate}
+use Rattle.std.specs.Prelude.{◌≡◌, List, ℕ, min, length, replicate, Result, Ok, Err}
 use Rattle.tables.specs.Tables.{Token, Node, table}
 use Rattle.grammar.specs.Derive.{Input}
 use Rattle.grammar.specs.Grammar.{Tree, Deep, Stops}
 pub use Rattle.cursor.specs.Entries.{input, MAX16, MAX64}
 unfoldable pub use Rattle.cursor.specs.Entries.{entry_of}
-use Rattle.parser.specs.declared.Parsed.{Parsed}
+use Rattle.parser.specs.declared.ParseError.{ParseError}
 
 -- ---- the verdict
 -- what a text's tokens are to the grammar: the nodes of a tree, or what 01 has as outcomes 7, with the place where reading stopped, and 5
@@ -23,10 +23,10 @@ pub data VerdictIs (x : Input) : Verdict → Type 0 where
 -- ---- the answer and the node table
 
 -- the answer: all nodes of a tree are counted, stored or not, so that outcome 6 can be told
-abbrev pub answer_of : Verdict → Parsed
-answer_of (tree ns) = Parsed.Tree (min (length ns) MAX64)
-answer_of (syntax i) = Parsed.Syntax i
-answer_of deep = Parsed.Deep
+abbrev pub answer_of : Verdict → Result ℕ ParseError
+answer_of (tree ns) = Ok (min (length ns) MAX64)
+answer_of (syntax i) = Err (ParseError.Syntax i)
+answer_of deep = Err ParseError.Deep
 
 -- the node table, of n bytes: the nodes in order, as many as fit, and unused entries are zero, as in every table
 abbrev pub nodes_of : ℕ → Verdict → List ℕ
@@ -35,7 +35,7 @@ nodes_of n (syntax i) = replicate n 0
 nodes_of n deep = replicate n 0
 
 -- the answer r to a text with the token table w, with U in the node table of n bytes
-pub record ParsedIs (text w : List ℕ) (n : ℕ) (U : List ℕ) (r : Parsed) : Type 0 where
+pub record ParsedIs (text w : List ℕ) (n : ℕ) (U : List ℕ) (r : Result ℕ ParseError) : Type 0 where
   pub verdict : Verdict
   pub is : VerdictIs (input text w) verdict
   pub answer : r ≡ answer_of verdict

@@ -9,39 +9,38 @@ ghost use Rattle.cursor.specs.Read.{Reads, start};
 ghost use Rattle.parser.specs.Parse.{ParsedIs};
 
 use crate::items::items;
-use cursor::{Cursor, READING};
-use node::keep_nodes;
-use token::room;
+use cursor::{Cursor, Source, Status};
+use tables::{Entry, Node, Token};
 
-// What a text's tokens are: a tree with so many nodes, no tree, with the first token that no attempt takes, or too deep.
+// Why a text's tokens have no tree: the first token that no attempt takes, or too deep.
 #[derive(Clone, Copy)]
-pub enum Parsed {
-    Tree(usize),
+pub enum ParseError {
     Syntax(usize),
     Deep,
 }
 
 // All items from the first token on.
-fn read(text: &[u8], tokens: &[u8], nodes: &mut [u8]) -> Cursor
-    ensures { Reads file text.now tokens.now start nodes.old result nodes.new }
+fn read(source: &Source, nodes: &mut [u8]) -> Cursor
+    ensures { Reads file source.now.text.now source.now.tokens.now start nodes.old result nodes.new }
 {
     let first = Cursor::begin(0, 0, 0, 0);
-    items(text, tokens, nodes, first)
+    items(source, nodes, first)
 }
 
-// Reads the tokens of a text into the node table: as many nodes as it has room for, and all are counted. What is not used is zero.
-pub fn parse(text: &[u8], tokens: &[u8], nodes: &mut [u8]) -> Parsed
+// Reads the tokens of a text into the node table: as many nodes as it has room for. All are counted, and what is not used is zero.
+pub fn parse(text: &[u8], tokens: &[u8], nodes: &mut [u8]) -> Result<usize, ParseError>
     ensures { ParsedIs text.now tokens.now (length nodes.old) nodes.new result }
 {
-    let p = read(text, tokens, nodes);
-    if p.status != READING {
-        keep_nodes(nodes, 0);
-        return Parsed::Deep;
+    let source = Source { text, tokens };
+    let p = read(&source, nodes);
+    if p.status != Status::Reading {
+        Node::keep(nodes, 0);
+        return Err(ParseError::Deep);
     }
-    if p.at != room(tokens) {
-        keep_nodes(nodes, 0);
-        return Parsed::Syntax(p.reached());
+    if p.at != Token::room(tokens) {
+        Node::keep(nodes, 0);
+        return Err(ParseError::Syntax(p.reached()));
     }
-    keep_nodes(nodes, p.count);
-    Parsed::Tree(p.count)
+    Node::keep(nodes, p.count);
+    Ok(p.count)
 }

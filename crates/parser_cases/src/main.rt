@@ -5,75 +5,42 @@ mod given;
 mod run;
 mod tree;
 
-ghost use Rattle.std.specs.Prelude.{◌≤◌, ◌<◌, length, IfOk};
-
-use case_io::{fill, line_end, number, words};
+use case_io::{Cases, fill, room};
 use std::io;
 use std::io::Write;
 
 fn main(rt: HostRuntime) -> io::Result<()> {
-    let mut file = room();
+    let mut file = room::<524288>();
     let n = fill(&mut rt.stdin(), &mut file)?;
-    cases(&mut rt.stdout(), &file[..n])
+    answers(&mut rt.stdout(), &file[..n])
 }
 
-// Zeros. They are made here, since where they are written out a proof counts them one by one.
-fn room() -> [u8; 524288] {
-    [0; 524288]
-}
-
-fn cases<W: Write>(out: &mut W, file: &[u8]) -> io::Result<()> {
-    let mut at = 0;
-    while at < file.len() {
-        at = answer(out, file, at)?;
+fn answers<W: Write>(out: &mut W, file: &[u8]) -> io::Result<()> {
+    let mut cases = Cases { rest: file };
+    while let Some(case) = cases.line() {
+        answer(out, case)?;
+        writeln!(out)?;
     }
     Ok(())
 }
 
-// Answers the line at `at`, and says where the next one begins.
-fn answer<W: Write>(out: &mut W, file: &[u8], at: usize) -> io::Result<usize>
-    requires { at ≤ length file.now }
-    ensures { IfOk result (λ next. at < next) }
-{
-    let end = line_end(file, at);
-    line(out, &file[at..end])?;
-    words(out, b"\n")?;
-    Ok(end + 1)
-}
-
 // A heading is printed as it stands.
-fn line<W: Write>(out: &mut W, case: &[u8]) -> io::Result<()> {
-    if case.len() > 2 && case[0] == b'p' {
-        return parsing_case(out, case);
+fn answer<W: Write>(out: &mut W, case: &[u8]) -> io::Result<()> {
+    match case {
+        [b'p', _, rest @ ..] if !rest.is_empty() => parsing_case(out, Cases { rest }),
+        [b'r', _, rest @ ..] if !rest.is_empty() => run::answer(out, Cases { rest }),
+        _ => out.write_all(case),
     }
-    if case.len() > 2 && case[0] == b'r' {
-        return run::answer(out, case);
-    }
-    words(out, case)
 }
 
 // p N T TOKENS TEXT: parsing TEXT with T bytes of token table, whose whole entries TOKENS has, and N bytes of node table.
-fn parsing_case<W: Write>(out: &mut W, case: &[u8]) -> io::Result<()> {
+fn parsing_case<W: Write>(out: &mut W, mut case: Cases<'_>) -> io::Result<()> {
     let mut space = [0xAAu8; 16384];
-    let nodes = number(case, 2);
-    let tokens = number(case, nodes.next);
-    let size = tokens.value;
-    if size > 16384 {
+    let node_bytes = case.number();
+    let token_bytes = case.number();
+    let Some(tokens) = space.get_mut(..token_bytes) else {
         return Ok(());
-    }
-    parse_after(out, case, tokens.next, &mut space[0..size], nodes.value)
-}
-
-fn parse_after<W: Write>(
-    out: &mut W,
-    case: &[u8],
-    at: usize,
-    tokens: &mut [u8],
-    node_bytes: usize,
-) -> io::Result<()> {
-    let next = given::tokens(case, at, tokens);
-    if next > case.len() {
-        return Ok(());
-    }
-    tree::answer(out, &case[next..], tokens, node_bytes)
+    };
+    given::tokens(&mut case, tokens);
+    tree::answer(out, case.rest, tokens, node_bytes)
 }

@@ -1,8 +1,9 @@
 // A case of parsing.
-use case_io::{field, stray, words};
-use parser::{Parsed, parse};
-use std::io;
+use case_io::stray;
+use parser::{ParseError, parse};
 use std::io::Write;
+use std::{fmt, io};
+use tables::{Entry, Node};
 
 // The table is full of another byte before the call.
 pub fn answer<W: Write>(
@@ -11,57 +12,50 @@ pub fn answer<W: Write>(
     tokens: &[u8],
     node_bytes: usize,
 ) -> io::Result<()> {
-    let mut nodes = [0xAAu8; 16384];
-    if node_bytes > 16384 {
+    let mut space = [0xAAu8; 16384];
+    let Some(nodes) = space.get_mut(..node_bytes) else {
         return Ok(());
-    }
-    parsed(out, text, tokens, &mut nodes[0..node_bytes])
+    };
+    parsed(out, text, tokens, nodes)
 }
 
+// What the parser answers, the bytes that should be zero and are not, and each node.
 pub fn parsed<W: Write>(
     out: &mut W,
     text: &[u8],
     tokens: &[u8],
     nodes: &mut [u8],
 ) -> io::Result<()> {
-    let answer = parse(text, tokens, nodes);
-    match answer {
-        Parsed::Tree(count) => {
-            words(out, b"tree")?;
-            field(out, b' ', count as u64)?;
-            print_table(out, nodes, least(count, node::room(nodes)))
+    let mut used = 0;
+    match parse(text, tokens, nodes) {
+        Ok(count) => {
+            used = count.min(Node::room(nodes));
+            write!(out, "tree {count}")?;
         }
-        Parsed::Syntax(at) => {
-            words(out, b"syntax")?;
-            field(out, b' ', at as u64)?;
-            print_table(out, nodes, 0)
-        }
-        Parsed::Deep => {
-            words(out, b"deep")?;
-            print_table(out, nodes, 0)
-        }
+        Err(ParseError::Syntax(at)) => write!(out, "syntax {at}")?,
+        Err(ParseError::Deep) => write!(out, "deep")?,
     }
-}
-
-fn least(a: usize, b: usize) -> usize {
-    if a < b { a } else { b }
-}
-
-// The bytes that should be zero and are not, then each node.
-fn print_table<W: Write>(out: &mut W, nodes: &[u8], used: usize) -> io::Result<()> {
-    field(out, b' ', stray(nodes, used, 16, 16, 16) as u64)?;
+    write!(out, " {}", stray(nodes, used, Node::SIZE, 0..0))?;
     for i in 0..used {
-        print_node(out, nodes, i)?;
+        write!(out, " n{}", NodeRow(Node::at(nodes, i)))?;
     }
     Ok(())
 }
 
-fn print_node<W: Write>(out: &mut W, table: &[u8], i: usize) -> io::Result<()> {
-    words(out, b" ")?;
-    field(out, b'n', node::kind(table, i) as u64)?;
-    field(out, b',', node::start(table, i) as u64)?;
-    field(out, b',', node::end(table, i) as u64)?;
-    field(out, b',', node::children(table, i) as u64)?;
-    field(out, b',', node::value(table, i))?;
-    field(out, b',', node::base(table, i) as u64)
+// A node as the case files spell it.
+#[derive(Clone, Copy)]
+struct NodeRow(Node);
+
+impl fmt::Display for NodeRow {
+    fn fmt<W: fmt::Write>(&self, f: &mut fmt::Formatter<W>) -> fmt::Result {
+        let Node {
+            kind,
+            base,
+            start,
+            end,
+            children,
+            value,
+        } = self.0;
+        write!(f, "{kind},{start},{end},{children},{value},{base}")
+    }
 }

@@ -3,55 +3,52 @@
 
 mod reading;
 
-ghost use Rattle.std.specs.Prelude.{◌<◌, length, IfOk};
+ghost use Rattle.std.specs.Prelude.{◌<◌, length, OnSome};
 
-use case_io::{fill, number};
+use case_io::{Cases, fill, room};
 use reading::answer;
 use std::io;
 use std::io::Write;
 
 fn main(rt: HostRuntime) -> io::Result<()> {
-    let mut file = room();
+    let mut file = room::<524288>();
     let n = fill(&mut rt.stdin(), &mut file)?;
-    cases(&mut rt.stdout(), &file[..n])
+    answers(&mut rt.stdout(), &file[..n])
 }
 
-// Zeros. They are made here, since where they are written out a proof counts them one by one.
-fn room() -> [u8; 524288] {
-    [0; 524288]
-}
-
-fn cases<W: Write>(out: &mut W, file: &[u8]) -> io::Result<()> {
-    let mut at = 0;
-    while at < file.len() {
-        at = case(out, file, at)?;
+fn answers<W: Write>(out: &mut W, file: &[u8]) -> io::Result<()> {
+    let mut cases = Cases { rest: file };
+    while let Some(case) = next(&mut cases) {
+        answer(out, case)?;
     }
     Ok(())
 }
 
+// A text, and how many bytes each of its tables has.
+#[derive(Clone, Copy)]
+struct Case<'a> {
+    tokens: usize,
+    nodes: usize,
+    diagnostics: usize,
+    text: &'a [u8],
+}
+
 // T N D L, a line feed, L bytes of text, a line feed: a reading with T, N and D bytes of token, node and diagnostic table.
-fn case<W: Write>(out: &mut W, file: &[u8], at: usize) -> io::Result<usize>
-    requires { at < length file.now }
-    ensures { IfOk result (λ next. at < next) }
+fn next<'a>(cases: &mut Cases<'a>) -> Option<Case<'a>>
+    ensures { OnSome result (length cases.new.rest.now < length cases.old.rest.now) }
 {
-    let tokens = number(file, at);
-    let nodes = number(file, tokens.next);
-    let diagnostics = number(file, nodes.next);
-    let size = number(file, diagnostics.next);
-    let start = size.next;
-    if start > file.len() {
-        return Ok(file.len());
+    if cases.rest.is_empty() {
+        return None;
     }
-    if size.value > file.len() - start {
-        return Ok(file.len());
-    }
-    let end = start + size.value;
-    answer(
-        out,
-        &file[start..end],
-        tokens.value,
-        nodes.value,
-        diagnostics.value,
-    )?;
-    Ok(end + 1)
+    let tokens = cases.number();
+    let nodes = cases.number();
+    let diagnostics = cases.number();
+    let size = cases.number();
+    let text = cases.bytes(size)?;
+    Some(Case {
+        tokens,
+        nodes,
+        diagnostics,
+        text,
+    })
 }

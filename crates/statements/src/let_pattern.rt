@@ -3,20 +3,19 @@ ghost use Rattle.grammar.specs.Derive.{rule, pattern, many, ◌&◌};
 ghost use Rattle.grammar.specs.Grammar.{another};
 ghost use Rattle.cursor.specs.Read.{Reads, Inside};
 
-use cursor::{Cursor, FAILED, Part, READING, deeper};
-use grammar::node_kind;
-use tables::token_type::{COMMA, L_PAREN, R_PAREN};
+use cursor::{Cursor, Part, Source, Status, deeper};
+use grammar::node_kind::NodeKind;
+use tables::token_type::TokenType;
 
 #[cycle(patterns)]
-pub fn pattern(text: &[u8], tokens: &[u8], nodes: &mut [u8], cursor: Cursor) -> Cursor
-    ensures { Reads (rule pattern) text.now tokens.now cursor nodes.old result nodes.new }
+pub fn pattern(source: &Source, nodes: &mut [u8], cursor: Cursor) -> Cursor
+    ensures { Reads (rule pattern) source.now.text.now source.now.tokens.now cursor nodes.old result nodes.new }
 {
-    if cursor.status != READING {
+    if cursor.status != Status::Reading {
         return cursor;
     }
     let q = pattern_at(
-        text,
-        tokens,
+        source,
         nodes,
         cursor.at,
         cursor.count,
@@ -29,53 +28,44 @@ pub fn pattern(text: &[u8], tokens: &[u8], nodes: &mut [u8], cursor: Cursor) -> 
 // The inside of a pattern.
 #[cycle(patterns)]
 fn pattern_at(
-    text: &[u8],
-    tokens: &[u8],
+    source: &Source,
     nodes: &mut [u8],
     at: usize,
     count: usize,
     nest: u8,
     furthest: usize,
 ) -> Part
-    ensures { Inside pattern text.now tokens.now at count nest furthest nodes.old result nodes.new }
+    ensures { Inside pattern source.now.text.now source.now.tokens.now at count nest furthest nodes.old result nodes.new }
 {
     let start = Cursor::begin(at, count, nest, furthest);
-    let k = start.peek(tokens);
-    if k == L_PAREN {
-        let p = start.take(tokens, L_PAREN);
-        let p = pattern(text, tokens, nodes, p);
-        let p = p.take(tokens, COMMA);
-        if p.status != READING {
+    let k = start.peek(source.tokens);
+    if k.is(TokenType::LParen) {
+        let p = start.take(source.tokens, TokenType::LParen);
+        let p = pattern(source, nodes, p);
+        let p = p.take(source.tokens, TokenType::Comma);
+        if p.status != Status::Reading {
             return p.ended();
         }
-        let q = pattern_at(
-            text,
-            tokens,
-            nodes,
-            p.at,
-            p.count,
-            deeper(p.nest),
-            p.furthest,
-        );
+        let q = pattern_at(source, nodes, p.at, p.count, deeper(p.nest), p.furthest);
         let p = p.join(q);
-        let p = patterns(text, tokens, nodes, p);
-        let p = p.take(tokens, R_PAREN);
-        let p = p.spanless(nodes, node_kind::PATTERN_TUPLE);
+        let p = patterns(source, nodes, p);
+        let p = p.take(source.tokens, TokenType::RParen);
+        let p = p.spanless(nodes, NodeKind::PatternTuple);
         return p.ended();
     }
-    let p = start.spanned_ident(tokens, nodes);
+    let p = start.spanned_ident(source.tokens, nodes);
     p.ended()
 }
 
 #[cycle(patterns)]
-fn patterns(text: &[u8], tokens: &[u8], nodes: &mut [u8], cursor: Cursor) -> Cursor
-    ensures { Reads (many (another (rule pattern))) text.now tokens.now cursor nodes.old result nodes.new }
+fn patterns(source: &Source, nodes: &mut [u8], cursor: Cursor) -> Cursor
+    ensures { Reads (many (another (rule pattern))) source.now.text.now source.now.tokens.now cursor nodes.old result nodes.new }
 {
     let mut p = cursor;
-    while p.status == READING {
-        let q = p.take(tokens, COMMA);
-        let q = pattern(text, tokens, nodes, q);
-        if q.status == FAILED {
+    while p.status == Status::Reading {
+        let q = p.take(source.tokens, TokenType::Comma);
+        let q = pattern(source, nodes, q);
+        if q.status == Status::Failed {
             return p.rewind(q);
         }
         p = q;

@@ -5,31 +5,27 @@ mod let_pattern;
 pub mod types;
 
 ghost use Rattle.grammar.specs.Derive.{rule, expr, stmt, for_step, many, ◌&◌};
-ghost use Rattle.grammar.specs.Kinds.{If};
+ghost use Rattle.grammar.specs.Kinds.{If, kind_of as node_kind};
 ghost use Rattle.grammar.specs.Grammar.{tok, whole, opt, typed, condition, let_stmt, const_def, action, assigned, finish, for_stmt, for_init, else_part, block_stmt, if_stmt, loop_stmt, while_stmt, return_stmt, statement};
-ghost use Rattle.tables.specs.TokenKinds.{SEMI};
+ghost use Rattle.tables.specs.TokenKinds.{SEMI, kind_of as token_kind};
 ghost use Rattle.cursor.specs.Read.{Reads, Puts, Ends, begun};
 
 use crate::let_pattern::pattern;
 use crate::types::type_expr;
-use cursor::{Cursor, FAILED, READING, StmtPart, deeper};
+use cursor::{Cursor, Source, Status, StmtPart, deeper};
 use expressions::expr;
-use grammar::node_kind;
-use tables::token_type::{
-    BREAK, COLON, CONST, CONTINUE, ELSE, EQ, FOR, IF, L_BRACE, L_PAREN, LET, LOOP, R_BRACE,
-    R_PAREN, RETURN, SEMICOLON, WHILE,
-};
+use grammar::node_kind::NodeKind;
+use tables::token_type::TokenType;
 
 #[cycle(statements)]
-fn stmt(text: &[u8], tokens: &[u8], nodes: &mut [u8], cursor: Cursor) -> Cursor
-    ensures { Reads (rule stmt) text.now tokens.now cursor nodes.old result nodes.new }
+fn stmt(source: &Source, nodes: &mut [u8], cursor: Cursor) -> Cursor
+    ensures { Reads (rule stmt) source.now.text.now source.now.tokens.now cursor nodes.old result nodes.new }
 {
-    if cursor.status != READING {
+    if cursor.status != Status::Reading {
         return cursor;
     }
     let q = stmt_at(
-        text,
-        tokens,
+        source,
         nodes,
         cursor.at,
         cursor.count,
@@ -42,87 +38,103 @@ fn stmt(text: &[u8], tokens: &[u8], nodes: &mut [u8], cursor: Cursor) -> Cursor
 // The inside of a statement: its first token says which.
 #[cycle(statements)]
 pub fn stmt_at(
-    text: &[u8],
-    tokens: &[u8],
+    source: &Source,
     nodes: &mut [u8],
     at: usize,
     count: usize,
     nest: u8,
     furthest: usize,
 ) -> StmtPart
-    ensures { Ends statement text.now tokens.now (begun at count nest furthest) nodes.old result nodes.new }
+    ensures { Ends statement source.now.text.now source.now.tokens.now (begun at count nest furthest) nodes.old result nodes.new }
 {
     let start = Cursor::begin(at, count, nest, furthest);
-    let k = start.peek(tokens);
-    if k == L_BRACE {
-        let p = block(text, tokens, nodes, start);
+    let k = start.peek(source.tokens);
+    if k.is(TokenType::LBrace) {
+        let p = block(source, nodes, start);
         return p.ended_with(false);
     }
-    if k == IF {
-        return if_stmt(text, tokens, nodes, start);
+    if k.is(TokenType::If) {
+        return if_stmt(source, nodes, start);
     }
-    if k == LOOP {
-        return loop_stmt(text, tokens, nodes, start);
+    if k.is(TokenType::Loop) {
+        return loop_stmt(source, nodes, start);
     }
-    if k == WHILE {
-        return while_stmt(text, tokens, nodes, start);
+    if k.is(TokenType::While) {
+        return while_stmt(source, nodes, start);
     }
-    if k == FOR {
-        return for_stmt(text, tokens, nodes, start);
+    if k.is(TokenType::For) {
+        return for_stmt(source, nodes, start);
     }
-    if k == BREAK {
-        let p = start.take(tokens, BREAK);
-        let p = p.take(tokens, SEMICOLON);
-        let p = p.whole(tokens, nodes, node_kind::BREAK);
+    if k.is(TokenType::Break) {
+        let p = jump(
+            source.tokens,
+            nodes,
+            start,
+            TokenType::Break,
+            NodeKind::Break,
+        );
         return p.ended_with(false);
     }
-    if k == CONTINUE {
-        let p = start.take(tokens, CONTINUE);
-        let p = p.take(tokens, SEMICOLON);
-        let p = p.whole(tokens, nodes, node_kind::CONTINUE);
+    if k.is(TokenType::Continue) {
+        let p = jump(
+            source.tokens,
+            nodes,
+            start,
+            TokenType::Continue,
+            NodeKind::Continue,
+        );
         return p.ended_with(false);
     }
-    if k == LET {
-        let p = let_stmt(text, tokens, nodes, start);
+    if k.is(TokenType::Let) {
+        let p = let_stmt(source, nodes, start);
         return p.ended_with(false);
     }
-    if k == CONST {
-        let p = const_def(text, tokens, nodes, start);
+    if k.is(TokenType::Const) {
+        let p = const_def(source, nodes, start);
         return p.ended_with(false);
     }
-    if k == RETURN {
-        let p = return_stmt(text, tokens, nodes, start);
+    if k.is(TokenType::Return) {
+        let p = return_stmt(source, nodes, start);
         return p.ended_with(false);
     }
-    let p = assignment_or_expr(text, tokens, nodes, start);
+    let p = assignment_or_expr(source, nodes, start);
     p.ended_with(false)
 }
 
-#[cycle(statements)]
-fn block(text: &[u8], tokens: &[u8], nodes: &mut [u8], cursor: Cursor) -> Cursor
-    ensures { Reads block_stmt text.now tokens.now cursor nodes.old result nodes.new }
+// A word that is a statement by itself: `break` or `continue`.
+fn jump(tokens: &[u8], nodes: &mut [u8], cursor: Cursor, word: TokenType, kind: NodeKind) -> Cursor
+    ensures { Puts (tok (token_kind word) & tok SEMI & whole (node_kind kind)) tokens.now cursor nodes.old result nodes.new }
 {
-    if cursor.status != READING {
-        return cursor;
-    }
-    let p = cursor.take(tokens, L_BRACE);
-    let p = stmts(text, tokens, nodes, p);
-    let p = p.take(tokens, R_BRACE);
-    p.whole(tokens, nodes, node_kind::BLOCK)
+    let p = cursor.take(tokens, word);
+    let p = p.take(tokens, TokenType::Semicolon);
+    p.whole(tokens, nodes, kind)
 }
 
 #[cycle(statements)]
-pub fn stmts(text: &[u8], tokens: &[u8], nodes: &mut [u8], cursor: Cursor) -> Cursor
-    ensures { Reads (many (rule stmt)) text.now tokens.now cursor nodes.old result nodes.new }
+fn block(source: &Source, nodes: &mut [u8], cursor: Cursor) -> Cursor
+    ensures { Reads block_stmt source.now.text.now source.now.tokens.now cursor nodes.old result nodes.new }
+{
+    if cursor.status != Status::Reading {
+        return cursor;
+    }
+    let p = cursor.take(source.tokens, TokenType::LBrace);
+    let p = stmts(source, nodes, p);
+    let p = p.take(source.tokens, TokenType::RBrace);
+    p.whole(source.tokens, nodes, NodeKind::Block)
+}
+
+#[cycle(statements)]
+pub fn stmts(source: &Source, nodes: &mut [u8], cursor: Cursor) -> Cursor
+    ensures { Reads (many (rule stmt)) source.now.text.now source.now.tokens.now cursor nodes.old result nodes.new }
 {
     let mut p = cursor;
-    while p.status == READING {
-        let k = p.peek(tokens);
-        if k == R_BRACE {
+    while p.status == Status::Reading {
+        let k = p.peek(source.tokens);
+        if k.is(TokenType::RBrace) {
             return p;
         }
-        let q = stmt(text, tokens, nodes, p);
-        if q.status == FAILED {
+        let q = stmt(source, nodes, p);
+        if q.status == Status::Failed {
             return p.rewind(q);
         }
         p = q;
@@ -131,28 +143,27 @@ pub fn stmts(text: &[u8], tokens: &[u8], nodes: &mut [u8], cursor: Cursor) -> Cu
 }
 
 #[cycle(statements)]
-fn if_stmt(text: &[u8], tokens: &[u8], nodes: &mut [u8], cursor: Cursor) -> StmtPart
-    ensures { Ends if_stmt text.now tokens.now cursor nodes.old result nodes.new }
+fn if_stmt(source: &Source, nodes: &mut [u8], cursor: Cursor) -> StmtPart
+    ensures { Ends if_stmt source.now.text.now source.now.tokens.now cursor nodes.old result nodes.new }
 {
-    if cursor.status != READING {
+    if cursor.status != Status::Reading {
         return cursor.ended_with(false);
     }
-    let p = cursor.take(tokens, IF);
-    let p = condition(text, tokens, nodes, p);
-    branches(text, tokens, nodes, p)
+    let p = cursor.take(source.tokens, TokenType::If);
+    let p = condition(source, nodes, p);
+    branches(source, nodes, p)
 }
 
 // The statement of an `if`, and its `else`: one that failed at this token within the statement is not tried again.
 #[cycle(statements)]
-fn branches(text: &[u8], tokens: &[u8], nodes: &mut [u8], cursor: Cursor) -> StmtPart
-    ensures { Ends (rule stmt & else_part & whole If) text.now tokens.now cursor nodes.old result nodes.new }
+fn branches(source: &Source, nodes: &mut [u8], cursor: Cursor) -> StmtPart
+    ensures { Ends (rule stmt & else_part & whole If) source.now.text.now source.now.tokens.now cursor nodes.old result nodes.new }
 {
-    if cursor.status != READING {
+    if cursor.status != Status::Reading {
         return cursor.ended_with(false);
     }
     let s = stmt_at(
-        text,
-        tokens,
+        source,
         nodes,
         cursor.at,
         cursor.count,
@@ -161,88 +172,79 @@ fn branches(text: &[u8], tokens: &[u8], nodes: &mut [u8], cursor: Cursor) -> Stm
     );
     let p = cursor.join(s.part);
     if s.tried {
-        let p = p.whole(tokens, nodes, node_kind::IF);
+        let p = p.whole(source.tokens, nodes, NodeKind::If);
         return p.ended_with(true);
     }
-    let q = p.take(tokens, ELSE);
-    if q.status == FAILED {
+    let q = p.take(source.tokens, TokenType::Else);
+    if q.status == Status::Failed {
         let p = p.rewind(q);
-        let p = p.whole(tokens, nodes, node_kind::IF);
+        let p = p.whole(source.tokens, nodes, NodeKind::If);
         return p.ended_with(true);
     }
-    if q.status != READING {
+    if q.status != Status::Reading {
         return q.ended_with(false);
     }
-    let t = stmt_at(
-        text,
-        tokens,
-        nodes,
-        q.at,
-        q.count,
-        deeper(q.nest),
-        q.furthest,
-    );
+    let t = stmt_at(source, nodes, q.at, q.count, deeper(q.nest), q.furthest);
     let q = q.join(t.part);
-    if q.status == FAILED {
+    if q.status == Status::Failed {
         let p = p.rewind(q);
-        let p = p.whole(tokens, nodes, node_kind::IF);
+        let p = p.whole(source.tokens, nodes, NodeKind::If);
         return p.ended_with(true);
     }
-    let q = q.whole(tokens, nodes, node_kind::IF);
+    let q = q.whole(source.tokens, nodes, NodeKind::If);
     q.ended_with(t.tried)
 }
 
 #[cycle(statements)]
-fn loop_stmt(text: &[u8], tokens: &[u8], nodes: &mut [u8], cursor: Cursor) -> StmtPart
-    ensures { Ends loop_stmt text.now tokens.now cursor nodes.old result nodes.new }
+fn loop_stmt(source: &Source, nodes: &mut [u8], cursor: Cursor) -> StmtPart
+    ensures { Ends loop_stmt source.now.text.now source.now.tokens.now cursor nodes.old result nodes.new }
 {
-    if cursor.status != READING {
+    if cursor.status != Status::Reading {
         return cursor.ended_with(false);
     }
-    let p = cursor.take(tokens, LOOP);
-    last_stmt(text, tokens, nodes, p, node_kind::LOOP)
+    let p = cursor.take(source.tokens, TokenType::Loop);
+    last_stmt(source, nodes, p, NodeKind::Loop)
 }
 
 #[cycle(statements)]
-fn while_stmt(text: &[u8], tokens: &[u8], nodes: &mut [u8], cursor: Cursor) -> StmtPart
-    ensures { Ends while_stmt text.now tokens.now cursor nodes.old result nodes.new }
+fn while_stmt(source: &Source, nodes: &mut [u8], cursor: Cursor) -> StmtPart
+    ensures { Ends while_stmt source.now.text.now source.now.tokens.now cursor nodes.old result nodes.new }
 {
-    if cursor.status != READING {
+    if cursor.status != Status::Reading {
         return cursor.ended_with(false);
     }
-    let p = cursor.take(tokens, WHILE);
-    let p = condition(text, tokens, nodes, p);
-    last_stmt(text, tokens, nodes, p, node_kind::WHILE)
+    let p = cursor.take(source.tokens, TokenType::While);
+    let p = condition(source, nodes, p);
+    last_stmt(source, nodes, p, NodeKind::While)
 }
 
 #[cycle(statements)]
-fn for_stmt(text: &[u8], tokens: &[u8], nodes: &mut [u8], cursor: Cursor) -> StmtPart
-    ensures { Ends for_stmt text.now tokens.now cursor nodes.old result nodes.new }
+fn for_stmt(source: &Source, nodes: &mut [u8], cursor: Cursor) -> StmtPart
+    ensures { Ends for_stmt source.now.text.now source.now.tokens.now cursor nodes.old result nodes.new }
 {
-    if cursor.status != READING {
+    if cursor.status != Status::Reading {
         return cursor.ended_with(false);
     }
-    let p = cursor.take(tokens, FOR);
-    let p = p.take(tokens, L_PAREN);
-    let p = for_init(text, tokens, nodes, p);
-    let p = expr(text, tokens, nodes, p);
-    let p = p.take(tokens, SEMICOLON);
-    let p = for_step(text, tokens, nodes, p);
-    let p = p.take(tokens, R_PAREN);
-    last_stmt(text, tokens, nodes, p, node_kind::FOR)
+    let p = cursor.take(source.tokens, TokenType::For);
+    let p = p.take(source.tokens, TokenType::LParen);
+    let p = for_init(source, nodes, p);
+    let p = expr(source, nodes, p);
+    let p = p.take(source.tokens, TokenType::Semicolon);
+    let p = for_step(source, nodes, p);
+    let p = p.take(source.tokens, TokenType::RParen);
+    last_stmt(source, nodes, p, NodeKind::For)
 }
 
 // The statement that a loop ends with, and the loop's node.
 #[cycle(statements)]
-fn last_stmt(text: &[u8], tokens: &[u8], nodes: &mut [u8], cursor: Cursor, kind: u8) -> StmtPart
-    ensures { Ends (rule stmt & whole kind) text.now tokens.now cursor nodes.old result nodes.new }
+fn last_stmt(source: &Source, nodes: &mut [u8], cursor: Cursor, kind: NodeKind) -> StmtPart
+    ensures { Ends (rule stmt & whole (node_kind kind)) source.now.text.now source.now.tokens.now cursor nodes.old result nodes.new }
 {
-    if cursor.status != READING {
+    if cursor.status != Status::Reading {
         return cursor.ended_with(false);
     }
     let s = stmt_at(
-        text,
-        tokens,
+        source,
         nodes,
         cursor.at,
         cursor.count,
@@ -250,23 +252,22 @@ fn last_stmt(text: &[u8], tokens: &[u8], nodes: &mut [u8], cursor: Cursor, kind:
         cursor.furthest,
     );
     let p = cursor.join(s.part);
-    let p = p.whole(tokens, nodes, kind);
+    let p = p.whole(source.tokens, nodes, kind);
     p.ended_with(s.tried)
 }
 
 // A `let` is read as the statement that it is.
 #[cycle(statements)]
-fn for_init(text: &[u8], tokens: &[u8], nodes: &mut [u8], cursor: Cursor) -> Cursor
-    ensures { Reads for_init text.now tokens.now cursor nodes.old result nodes.new }
+fn for_init(source: &Source, nodes: &mut [u8], cursor: Cursor) -> Cursor
+    ensures { Reads for_init source.now.text.now source.now.tokens.now cursor nodes.old result nodes.new }
 {
-    if cursor.status != READING {
+    if cursor.status != Status::Reading {
         return cursor;
     }
-    let k = cursor.peek(tokens);
-    if k == LET {
+    let k = cursor.peek(source.tokens);
+    if k.is(TokenType::Let) {
         let q = stmt_at(
-            text,
-            tokens,
+            source,
             nodes,
             cursor.at,
             cursor.count,
@@ -276,45 +277,45 @@ fn for_init(text: &[u8], tokens: &[u8], nodes: &mut [u8], cursor: Cursor) -> Cur
         return cursor.join(q.part);
     }
     let p = cursor.enter();
-    let p = expr(text, tokens, nodes, p);
-    let p = assigned(text, tokens, nodes, p);
-    let p = p.take(tokens, SEMICOLON);
-    let p = finish(tokens, nodes, p);
+    let p = expr(source, nodes, p);
+    let p = assigned(source, nodes, p);
+    let p = p.take(source.tokens, TokenType::Semicolon);
+    let p = finish(source.tokens, nodes, p);
     p.leave(cursor)
 }
 
-fn for_step(text: &[u8], tokens: &[u8], nodes: &mut [u8], cursor: Cursor) -> Cursor
-    ensures { Reads (rule for_step) text.now tokens.now cursor nodes.old result nodes.new }
+fn for_step(source: &Source, nodes: &mut [u8], cursor: Cursor) -> Cursor
+    ensures { Reads (rule for_step) source.now.text.now source.now.tokens.now cursor nodes.old result nodes.new }
 {
-    if cursor.status != READING {
+    if cursor.status != Status::Reading {
         return cursor;
     }
     let p = cursor.enter();
-    let p = expr(text, tokens, nodes, p);
-    let p = assigned(text, tokens, nodes, p);
-    let p = finish(tokens, nodes, p);
+    let p = expr(source, nodes, p);
+    let p = assigned(source, nodes, p);
+    let p = finish(source.tokens, nodes, p);
     p.leave(cursor)
 }
 
-fn assignment_or_expr(text: &[u8], tokens: &[u8], nodes: &mut [u8], cursor: Cursor) -> Cursor
-    ensures { Reads (action (tok SEMI)) text.now tokens.now cursor nodes.old result nodes.new }
+fn assignment_or_expr(source: &Source, nodes: &mut [u8], cursor: Cursor) -> Cursor
+    ensures { Reads (action (tok SEMI)) source.now.text.now source.now.tokens.now cursor nodes.old result nodes.new }
 {
-    let p = expr(text, tokens, nodes, cursor);
-    let p = assigned(text, tokens, nodes, p);
-    let p = p.take(tokens, SEMICOLON);
-    finish(tokens, nodes, p)
+    let p = expr(source, nodes, cursor);
+    let p = assigned(source, nodes, p);
+    let p = p.take(source.tokens, TokenType::Semicolon);
+    finish(source.tokens, nodes, p)
 }
 
-fn assigned(text: &[u8], tokens: &[u8], nodes: &mut [u8], cursor: Cursor) -> Cursor
-    ensures { Reads assigned text.now tokens.now cursor nodes.old result nodes.new }
+fn assigned(source: &Source, nodes: &mut [u8], cursor: Cursor) -> Cursor
+    ensures { Reads assigned source.now.text.now source.now.tokens.now cursor nodes.old result nodes.new }
 {
-    let k = cursor.peek(tokens);
-    if k != EQ {
+    let k = cursor.peek(source.tokens);
+    if !k.is(TokenType::Eq) {
         return cursor;
     }
-    let p = cursor.take(tokens, EQ);
-    let p = expr(text, tokens, nodes, p);
-    if p.status == FAILED {
+    let p = cursor.take(source.tokens, TokenType::Eq);
+    let p = expr(source, nodes, p);
+    if p.status == Status::Failed {
         return cursor.rewind(p);
     }
     p
@@ -325,81 +326,81 @@ fn finish(tokens: &[u8], nodes: &mut [u8], cursor: Cursor) -> Cursor
     ensures { Puts finish tokens.now cursor nodes.old result nodes.new }
 {
     let p = cursor.alone();
-    let p = p.whole(tokens, nodes, node_kind::EXPR_STMT);
-    if p.status == FAILED {
+    let p = p.whole(tokens, nodes, NodeKind::ExprStmt);
+    if p.status == Status::Failed {
         let p = cursor.rewind(p);
-        return p.whole(tokens, nodes, node_kind::ASSIGN);
+        return p.whole(tokens, nodes, NodeKind::Assign);
     }
     p
 }
 
-fn condition(text: &[u8], tokens: &[u8], nodes: &mut [u8], cursor: Cursor) -> Cursor
-    ensures { Reads condition text.now tokens.now cursor nodes.old result nodes.new }
+fn condition(source: &Source, nodes: &mut [u8], cursor: Cursor) -> Cursor
+    ensures { Reads condition source.now.text.now source.now.tokens.now cursor nodes.old result nodes.new }
 {
-    let p = cursor.take(tokens, L_PAREN);
-    let p = expr(text, tokens, nodes, p);
-    let p = p.take(tokens, R_PAREN);
-    if p.status == FAILED {
+    let p = cursor.take(source.tokens, TokenType::LParen);
+    let p = expr(source, nodes, p);
+    let p = p.take(source.tokens, TokenType::RParen);
+    if p.status == Status::Failed {
         let p = cursor.rewind(p);
-        return expr(text, tokens, nodes, p);
+        return expr(source, nodes, p);
     }
     p
 }
 
-fn let_stmt(text: &[u8], tokens: &[u8], nodes: &mut [u8], cursor: Cursor) -> Cursor
-    ensures { Reads let_stmt text.now tokens.now cursor nodes.old result nodes.new }
+fn let_stmt(source: &Source, nodes: &mut [u8], cursor: Cursor) -> Cursor
+    ensures { Reads let_stmt source.now.text.now source.now.tokens.now cursor nodes.old result nodes.new }
 {
-    let p = cursor.take(tokens, LET);
-    let p = pattern(text, tokens, nodes, p);
-    let p = typed(text, tokens, nodes, p);
-    let p = p.take(tokens, EQ);
-    let p = expr(text, tokens, nodes, p);
-    let p = p.take(tokens, SEMICOLON);
-    p.whole(tokens, nodes, node_kind::LET)
+    let p = cursor.take(source.tokens, TokenType::Let);
+    let p = pattern(source, nodes, p);
+    let p = typed(source, nodes, p);
+    let p = p.take(source.tokens, TokenType::Eq);
+    let p = expr(source, nodes, p);
+    let p = p.take(source.tokens, TokenType::Semicolon);
+    p.whole(source.tokens, nodes, NodeKind::Let)
 }
 
-fn const_def(text: &[u8], tokens: &[u8], nodes: &mut [u8], cursor: Cursor) -> Cursor
-    ensures { Reads const_def text.now tokens.now cursor nodes.old result nodes.new }
+fn const_def(source: &Source, nodes: &mut [u8], cursor: Cursor) -> Cursor
+    ensures { Reads const_def source.now.text.now source.now.tokens.now cursor nodes.old result nodes.new }
 {
-    let p = cursor.take(tokens, CONST);
-    let p = p.spanned_ident(tokens, nodes);
-    let p = typed(text, tokens, nodes, p);
-    let p = p.take(tokens, EQ);
-    let p = expr(text, tokens, nodes, p);
-    let p = p.take(tokens, SEMICOLON);
-    p.whole(tokens, nodes, node_kind::CONST)
+    let p = cursor.take(source.tokens, TokenType::Const);
+    let p = p.spanned_ident(source.tokens, nodes);
+    let p = typed(source, nodes, p);
+    let p = p.take(source.tokens, TokenType::Eq);
+    let p = expr(source, nodes, p);
+    let p = p.take(source.tokens, TokenType::Semicolon);
+    p.whole(source.tokens, nodes, NodeKind::Const)
 }
 
-fn typed(text: &[u8], tokens: &[u8], nodes: &mut [u8], cursor: Cursor) -> Cursor
-    ensures { Reads typed text.now tokens.now cursor nodes.old result nodes.new }
+fn typed(source: &Source, nodes: &mut [u8], cursor: Cursor) -> Cursor
+    ensures { Reads typed source.now.text.now source.now.tokens.now cursor nodes.old result nodes.new }
 {
-    let k = cursor.peek(tokens);
-    if k != COLON {
+    let k = cursor.peek(source.tokens);
+    if !k.is(TokenType::Colon) {
         return cursor;
     }
-    let p = cursor.take(tokens, COLON);
-    let p = type_expr(text, tokens, nodes, p);
+    let p = cursor.take(source.tokens, TokenType::Colon);
+    let p = type_expr(source, nodes, p);
     let p = p.tick();
-    if p.status == FAILED {
+    if p.status == Status::Failed {
         return cursor.rewind(p);
     }
     p
 }
 
-fn return_stmt(text: &[u8], tokens: &[u8], nodes: &mut [u8], cursor: Cursor) -> Cursor
-    ensures { Reads return_stmt text.now tokens.now cursor nodes.old result nodes.new }
+fn return_stmt(source: &Source, nodes: &mut [u8], cursor: Cursor) -> Cursor
+    ensures { Reads return_stmt source.now.text.now source.now.tokens.now cursor nodes.old result nodes.new }
 {
-    let p = cursor.take(tokens, RETURN);
-    let p = returned(text, tokens, nodes, p);
-    let p = p.take(tokens, SEMICOLON);
-    p.whole(tokens, nodes, node_kind::RETURN)
+    let p = cursor.take(source.tokens, TokenType::Return);
+    let p = returned(source, nodes, p);
+    let p = p.take(source.tokens, TokenType::Semicolon);
+    p.whole(source.tokens, nodes, NodeKind::Return)
 }
 
-fn returned(text: &[u8], tokens: &[u8], nodes: &mut [u8], cursor: Cursor) -> Cursor
-    ensures { Reads (opt (rule expr)) text.now tokens.now cursor nodes.old result nodes.new }
+fn returned(source: &Source, nodes: &mut [u8], cursor: Cursor) -> Cursor
+    ensures { Reads (opt (rule expr)) source.now.text.now source.now.tokens.now cursor nodes.old result nodes.new }
 {
-    let p = expr(text, tokens, nodes, cursor);
-    if p.status == FAILED {
+    let p = expr(source, nodes, cursor);
+    if p.status == Status::Failed {
         return cursor.rewind(p);
     }
     p

@@ -9,52 +9,13 @@ use native.Mathlib.Decide.{dec_lt}
 use lib.ListN.{length, get_or, take, drop, set, replicate, length-append, length-take, length-drop, length-replicate, length-set, get_or-eq_default}
 use lib.Seq.{take-nil, take_all, take-append-le, take-append-add, drop-append-add, take_at, drop_at, drop-drop, sets, sets-eq, take-suc-set, get_or-take, get_or-drop, ext_get_or}
 use borrow.Author.Tests.{lt-ltb, le-ltb, le-leb, lt-leb}
-use Rattle.tables.specs.Tables.{Token, Node, Diagnostic, le16, le64, encode_token, encode_node, encode_diagnostic, joined, filled, table, laid, stored, cleared, kept, number, entry_at, decode_token, decode_node, decode_diagnostic, field_at, token_at, node_at, diagnostic_at, token_table, node_table, diagnostic_table, tabulate, tokens_of}
+use Rattle.tables.specs.Tables.{Token, Node, Diagnostic, le16, le64, encode_token, encode_node, encode_diagnostic, joined, filled, table, laid, stored, cleared, kept, number, entry_at, decode_token, decode_node, decode_diagnostic, token_at, node_at, diagnostic_at, token_table, node_table, diagnostic_table, tabulate, tokens_of}
 
 abbrev zeros : ℕ → List ℕ
 zeros n = replicate n 0
 
--- ---- clearing: what is still to be done makes the whole
-pub record Clearing (t₀ : List ℕ) (at : ℕ) (t : List ℕ) (i : ℕ) : Type 0 where
-  pub same_length : length t ≡ length t₀
-  pub so_far : cleared i t ≡ cleared at t₀
-
-module _ {t₀ : List ℕ} {at : ℕ} where
-  pub clearing_none : Clearing t₀ at t₀ at
-  clearing_none = record { same_length = refl; so_far = refl }
-
-  pub clearing_more : {t : List ℕ} {i : ℕ} → Clearing t₀ at t i → i < length t → Clearing t₀ at (set t i 0) (i + 1)
-  unfolding cleared
-  clearing_more {t} {i} p h =
-      let n : length t - i ≡ suc (length t - suc i) = omega arith in
-      record {
-        same_length = length-set t i 0 ∙ p.same_length;
-        so_far = rw (add-one, length-set, take-suc-set t i 0 h, append_assoc) (ap (λ (k : ℕ). take i t ++ zeros k) (sym n) ∙ p.so_far);
-      }
-
-  pub clearing_end : {t : List ℕ} {i : ℕ} → Clearing t₀ at t i → length t ≤ i → t ≡ cleared at t₀
-  unfolding cleared
-  clearing_end {t} {i} p h =
-      let n : length t - i ≡ 0 = omega arith in
-      sym (ap₂ (λ (x : List ℕ) (k : ℕ). x ++ zeros k) (take_all i t h) n ∙ append-nil t) ∙ p.so_far
-
--- ---- keeping the first k entries
-module _ (w k : ℕ) (t : List ℕ) {u : List ℕ} where
-  pub kept_some : k < length t / w → u ≡ cleared (k * w) t → u ≡ kept w k t
-  unfolding kept
-  kept_some h f = f ∙ ap (λ (n : ℕ). cleared (n * w) t) (omega arith)
-
-  pub kept_all : length t / w ≤ k → u ≡ cleared (length t / w * w) t → u ≡ kept w k t
-  unfolding kept
-  kept_all h f = f ∙ ap (λ (n : ℕ). cleared (n * w) t) (omega arith)
-
-  -- entries of no bytes
-  pub kept_none : w ≡ 0 → u ≡ cleared 0 t → u ≡ kept w k t
-  unfolding kept
-  kept_none h f = f ∙ ap (λ (n : ℕ). cleared n t) (sym (ap (λ (n : ℕ). min k (length t / w) * n) h ∙ mul-zero (min k (length t / w))))
-
--- ---- an entry is one word or two
-sets_append : (l : List ℕ) (i : ℕ) (u v : List ℕ) → sets (sets l i u) (i + length u) v ≡ sets l i (u ++ v)
+-- ---- an entry's bytes
+pub sets_append : (l : List ℕ) (i : ℕ) (u v : List ℕ) → sets (sets l i u) (i + length u) v ≡ sets l i (u ++ v)
 sets_append l i [] v = ap (λ (k : ℕ). sets l k v) (add-zero i)
 sets_append l i (a ∷ u) v =
     ap (λ (k : ℕ). sets (sets (set l i a) (suc i) u) k v) (add-suc i (length u) ∙ sym (suc-add i (length u))) ∙ sets_append (set l i a) (suc i) u v
@@ -71,12 +32,6 @@ module _ (t : List ℕ) (i : ℕ) {t' : List ℕ} where
   pub stored_some : (w : ℕ) (b : List ℕ) → i < length t / w → t' ≡ sets t (i * w) b → t' ≡ stored w t i b
   unfolding stored
   stored_some w b h e = e ∙ sym (rw (lt-ltb i (length t / w) h))
-
-  pub stored_two : {t'' : List ℕ} (v w : ℕ) → i < length t / 16 → t' ≡ sets t (i * 16) (le64 v) → t'' ≡ sets t' (i * 16 + 8) (le64 w)
-      → t'' ≡ stored 16 t i (le64 v ++ le64 w)
-  unfolding stored le64
-  stored_two v w h e f =
-      f ∙ ap (λ (l : List ℕ). sets l (i * 16 + 8) (le64 w)) e ∙ sets_append t (i * 16) (le64 v) (le64 w) ∙ sym (rw (lt-ltb i (length t / 16) h))
 
 -- ---- a table with its first entries laid over what it had
 take_zeros : (k n : ℕ) → k ≤ n → take k (zeros n) ≡ zeros k
@@ -95,11 +50,11 @@ unfolding joined
 joined_append f [] m = refl
 joined_append f (a ∷ l) m = ap (λ (x : List ℕ). f a ++ x) (joined_append f l m) ∙ sym (append_assoc (f a) (joined f l) (joined f m))
 
-joined_snoc : {A : Type 0} (f : A → List ℕ) (l : List A) (a : A) → joined f (l ++ (a ∷ [])) ≡ joined f l ++ f a
+pub joined_snoc : {A : Type 0} (f : A → List ℕ) (l : List A) (a : A) → joined f (l ++ (a ∷ [])) ≡ joined f l ++ f a
 unfolding joined
 joined_snoc f l a = joined_append f l (a ∷ []) ∙ ap (λ (x : List ℕ). joined f l ++ x) (append-nil (f a))
 
-joined_length : {A : Type 0} (f : A → List ℕ) (w : ℕ) → ((a : A) → length (f a) ≡ w) → (l : List A) → length (joined f l) ≡ length l * w
+pub joined_length : {A : Type 0} (f : A → List ℕ) (w : ℕ) → ((a : A) → length (f a) ≡ w) → (l : List A) → length (joined f l) ≡ length l * w
 unfolding joined
 joined_length f w h [] = sym (zero-mul w)
 joined_length f w h (a ∷ l) = length-append (f a) (joined f l) ∙ ap₂ ◌+◌ (h a) (joined_length f w h l) ∙ add_comm w (length l * w) ∙ sym (suc-mul (length l) w)
@@ -195,6 +150,10 @@ module _ {A : Type 0} (f : A → List ℕ) (w : ℕ) (some_size : 0 < w) (each :
       ∙ sym (ap (λ (m : List A). filled (length l * w) (joined f m)) (take_all (length l * w / w) l q) ∙ filled_is (length l * w) b (omega arith) ∙ ap (λ (j : ℕ). b ++ zeros j) z ∙ append-nil b)
 
 -- ---- entries' sizes, and tables that are all zero
+pub word_size : (v : ℕ) → length (le64 v) ≡ 8
+unfolding le64
+word_size v = refl
+
 pub token_size : (t : Token) → length (encode_token t) ≡ 16
 unfolding encode_token le16 le64
 token_size t = refl
@@ -216,21 +175,6 @@ cleared_all t = ap zeros (sub-zero (length t))
 pub room : (n w i : ℕ) → i < n / w → i * w + w ≤ n
 room n zero i h = absurd (omega (arith, div-zero n))
 room n (suc w) i h = omega (arith, suc-mul i (suc w), (le-div_iff_mul-le {k = suc w} (omega arith)).0 h)
-
-module _ (t : List ℕ) (k : ℕ) where
-  pub number_one : get_or t k 0 ≡ number t k 1
-  unfolding number
-  number_one = simp towards_suc
-
-  pub number_two : {r : ℕ} → r ≡ get_or t k 0 + 256 * get_or t (k + 1) 0 → r ≡ number t k 2
-  unfolding number
-  number_two e = e ∙ simp towards_suc
-
-  pub number_eight : {r : ℕ}
-      → r ≡ get_or t k 0 + 256 * (get_or t (k + 1) 0 + 256 * (get_or t (k + 2) 0 + 256 * (get_or t (k + 3) 0 + 256 * (get_or t (k + 4) 0 + 256 * (get_or t (k + 5) 0 + 256 * (get_or t (k + 6) 0 + 256 * get_or t (k + 7) 0))))))
-      → r ≡ number t k 8
-  unfolding number
-  number_eight e = e ∙ simp towards_suc
 
 get_d_padded : (b : List ℕ) (m i : ℕ) → length b ≤ i → get_or (b ++ zeros m) i 0 ≡ 0
 get_d_padded [] zero i h = refl
@@ -256,15 +200,6 @@ module _ (w i : ℕ) (t : List ℕ) where
   pub number_none : (a n : ℕ) → length t / w ≤ i → 0 ≡ number (entry_at w t i) a n
   unfolding entry_at
   number_none a n h = rw (le-ltb i (length t / w) h) (sym (number_padded [] 0 a n zero-le))
-
-  pub field_in : (a n : ℕ) {k r : ℕ} → i < length t / w → a + n ≤ w → k ≡ i * w + a → r ≡ number t k n → r ≡ field_at w t i a n
-  field_in a n h fits e f = rw (le-leb (a + n) w fits) (f ∙ ap (λ (k : ℕ). number t k n) e ∙ number_entry a n h fits)
-
-  pub field_none : (a n : ℕ) → a + n ≤ w → length t / w ≤ i → 0 ≡ field_at w t i a n
-  field_none a n fits h = rw (le-leb (a + n) w fits) (number_none a n h)
-
-  pub field_out : (a n : ℕ) → w < a + n → 0 ≡ field_at w t i a n
-  field_out a n h = rw (lt-leb (a + n) w h)
 
 -- ---- what was laid down is read back
 module _ {A : Type 0} (f : A → List ℕ) (w : ℕ) (some_size : 0 < w) (each : (a : A) → length (f a) ≡ w) where
@@ -322,11 +257,6 @@ pub record NodeFits (n : Node) : Type 0 where
   pub children_fits : n.children < 65536
   pub value_fits : n.value < 2 ^ 64
 
-pub record DiagnosticFits (d : Diagnostic) : Type 0 where
-  pub start_fits : d.start < 65536
-  pub end_fits : d.end < 65536
-  pub reason_fits : d.reason < 256
-
 half_decoded : (v : ℕ) → v < 65536 → v % 256 + 256 * (v / 256 % 256 + 256 * 0) ≡ v
 half_decoded v h = omega arith
 
@@ -349,21 +279,11 @@ unfolding encode_node le16 le64 number
 node_decoded n h =
     rw (add-zero n.kind, add-zero n.base, half_decoded n.start h.start_fits, half_decoded n.end h.end_fits, half_decoded n.children h.children_fits, word_decoded n.value h.value_fits)
 
-diagnostic_decoded : (d : Diagnostic) → DiagnosticFits d → decode_diagnostic (encode_diagnostic d) ≡ d
-unfolding encode_diagnostic le16 number
-diagnostic_decoded t h =
-    rw (half_decoded t.start h.start_fits, half_decoded t.end h.end_fits, add-zero t.reason)
-
 pub token_read : (n : ℕ) (ts : List Token) (i : ℕ) (d : Token) → i < length ts → i < n / 16 → TokenFits (get_or ts i d) → token_at (token_table n ts) i ≡ get_or ts i d
 token_read n ts i d h k fits = ap decode_token (entry_stored encode_token 16 (omega arith) token_size n ts i d h k) ∙ token_decoded (get_or ts i d) fits
 
 pub node_read : (n : ℕ) (ns : List Node) (i : ℕ) (d : Node) → i < length ns → i < n / 16 → NodeFits (get_or ns i d) → node_at (node_table n ns) i ≡ get_or ns i d
 node_read n ns i d h k fits = ap decode_node (entry_stored encode_node 16 (omega arith) node_size n ns i d h k) ∙ node_decoded (get_or ns i d) fits
-
-pub diagnostic_read : (n : ℕ) (ds : List Diagnostic) (i : ℕ) (d : Diagnostic) → i < length ds → i < n / 8 → DiagnosticFits (get_or ds i d)
-    → diagnostic_at (diagnostic_table n ds) i ≡ get_or ds i d
-diagnostic_read n ds i d h k fits =
-    ap decode_diagnostic (entry_stored encode_diagnostic 8 (omega arith) diagnostic_size n ds i d h k) ∙ diagnostic_decoded (get_or ds i d) fits
 
 -- a token of kind 0, all else 0 too
 abbrev pub zero_token : Token
@@ -383,11 +303,6 @@ pub node_past : (n : ℕ) (ns : List Node) (i : ℕ) → length ns ≤ i → nod
 node_past n ns i h =
     let past = number_past encode_node 16 (omega arith) node_size n ns i h in
     rw (past 0 1 (omega arith), past 1 1 (omega arith), past 2 2 (omega arith), past 4 2 (omega arith), past 6 2 (omega arith), past 8 8 (omega arith))
-
-pub diagnostic_past : (n : ℕ) (ds : List Diagnostic) (i : ℕ) → length ds ≤ i → diagnostic_at (diagnostic_table n ds) i ≡ record { start = 0; end = 0; reason = 0 }
-diagnostic_past n ds i h =
-    let past = number_past encode_diagnostic 8 (omega arith) diagnostic_size n ds i h in
-    rw (past 0 2 (omega arith), past 2 2 (omega arith), past 4 1 (omega arith))
 
 -- ---- all tokens of a table
 module _ {A : Type 0} where

@@ -1,3 +1,4 @@
 pub mod Tables
 pub mod TokenKinds
 pub mod Suffix
+pub mod Codes

@@ -1,30 +1,19 @@
 -- The tables that a caller lends: bytes, as a C struct lays the entries out. Assumes nothing.
 use Rattle.std.specs.Prelude.{cond, List, [], ◌∷◌, ◌++◌, ℕ, zero, suc, ◌+◌, ◌-◌, ◌*◌, ◌/◌, ◌%◌, ◌^◌, min, ltb, leb, length, get_or, take, drop, replicate}
 use Rattle.std.proofs.lemmas.List.Edits.{sets}
+use Rattle.tables.specs.declared.token.Token.{Token as TokenStruct}
+use Rattle.tables.specs.declared.node.Node.{Node as NodeStruct}
+use Rattle.tables.specs.declared.diagnostic.Diagnostic.{Diagnostic as DiagnosticStruct}
 
--- `TokenType`'s order from 1, the numeral's value, suffix (0 none, 1 felt, 2 u32, 3 other) and base, the place in the text
-pub record Token : Type 0 where
-  pub kind : ℕ
-  pub suffix : ℕ
-  pub start : ℕ
-  pub end : ℕ
-  pub base : ℕ
-  pub value : ℕ
+-- the entries: the structs of src/, by their names here
+abbrev pub Token : Type 0
+Token = TokenStruct
 
--- a node has kind, start, end, number of children and a value, and the base of the numeral that it is
-pub record Node : Type 0 where
-  pub kind : ℕ
-  pub base : ℕ
-  pub start : ℕ
-  pub end : ℕ
-  pub children : ℕ
-  pub value : ℕ
+abbrev pub Node : Type 0
+Node = NodeStruct
 
--- reason 1 character, 2 overflow, 3 format, 4 unknown suffix
-pub record Diagnostic : Type 0 where
-  pub start : ℕ
-  pub end : ℕ
-  pub reason : ℕ
+abbrev pub Diagnostic : Type 0
+Diagnostic = DiagnosticStruct
 
 -- little-endian numbers of 16 bits
 unfoldable pub le16 : ℕ → List ℕ
@@ -104,10 +93,6 @@ number b a (suc n) = get_or b a 0 + 256 * number b (suc a) n
 -- the bytes of entry i of a table; none where the table has no entry i
 unfoldable pub entry_at : ℕ → List ℕ → ℕ → List ℕ
 entry_at size t i = cond (ltb i (length t / size)) (take size (drop (i * size) t)) []
-
--- the little-endian number of n bytes at place a of entry i; 0 where the table has no entry i or the entry no such place
-abbrev pub field_at : ℕ → List ℕ → ℕ → ℕ → ℕ → ℕ
-field_at size t i a n = cond (leb (a + n) size) (number (entry_at size t i) a n) 0
 
 -- the token that an entry's bytes say
 abbrev pub decode_token : List ℕ → Token

@@ -1,5 +1,6 @@
 -- The kinds of tokens: `TokenType`'s variants in their order, from 1. Assumes nothing.
 use Rattle.std.specs.Prelude.{ℕ}
+use Rattle.tables.specs.declared.token_type.TokenType.{TokenType}
 
 abbrev pub NUMBER : ℕ
 NUMBER = 1
@@ -150,3 +151,56 @@ COLONCOLON = 49
 
 abbrev pub DOT : ℕ
 DOT = 50
+
+-- the number of a kind
+abbrev pub kind_of : TokenType → ℕ
+kind_of TokenType.LiteralNumber = NUMBER
+kind_of TokenType.As = AS
+kind_of TokenType.Const = CONST
+kind_of TokenType.Else = ELSE
+kind_of TokenType.False = FALSE
+kind_of TokenType.Function = FN
+kind_of TokenType.If = IF
+kind_of TokenType.Let = LET
+kind_of TokenType.New = NEW
+kind_of TokenType.Return = RETURN
+kind_of TokenType.Struct = STRUCT
+kind_of TokenType.True = TRUE
+kind_of TokenType.While = WHILE
+kind_of TokenType.Loop = LOOP
+kind_of TokenType.For = FOR
+kind_of TokenType.In = IN
+kind_of TokenType.Break = BREAK
+kind_of TokenType.Continue = CONTINUE
+kind_of TokenType.Use = USE
+kind_of TokenType.Identifier = IDENT
+kind_of TokenType.Not = NOT
+kind_of TokenType.AndAnd = ANDAND
+kind_of TokenType.OrOr = OROR
+kind_of TokenType.BitwiseAnd = AND
+kind_of TokenType.BitwiseOr = OR
+kind_of TokenType.BitwiseXor = XOR
+kind_of TokenType.EqEq = EQEQ
+kind_of TokenType.Neq = NEQ
+kind_of TokenType.LessEqual = LE
+kind_of TokenType.GreaterEqual = GE
+kind_of TokenType.Less = LT
+kind_of TokenType.Greater = GT
+kind_of TokenType.Plus = PLUS
+kind_of TokenType.Minus = MINUS
+kind_of TokenType.Mul = MUL
+kind_of TokenType.Div = DIV
+kind_of TokenType.Mod = MOD
+kind_of TokenType.Eq = EQ
+kind_of TokenType.Arrow = ARROW
+kind_of TokenType.LParen = LPAREN
+kind_of TokenType.RParen = RPAREN
+kind_of TokenType.LBrace = LBRACE
+kind_of TokenType.RBrace = RBRACE
+kind_of TokenType.LBrack = LBRACK
+kind_of TokenType.RBrack = RBRACK
+kind_of TokenType.Comma = COMMA
+kind_of TokenType.Semicolon = SEMI
+kind_of TokenType.Colon = COLON
+kind_of TokenType.ColonColon = COLONCOLON
+kind_of TokenType.Dot = DOT

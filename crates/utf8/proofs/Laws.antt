@@ -1,14 +1,18 @@
 -- Laws of UTF-8: the rows of the table as tests of the bytes, the length of a character, and what follows it. Assumes nothing.
 use mathlib.Core.Path.{◌≡◌, refl, ap, ap₂}
-use mathlib.Core.Bool.{Bool, false}
+use mathlib.Core.Bool.{Bool, true, false, false≢true}
 use mathlib.Core.Logic.{inl, inr}
 use mathlib.Core.List.{List, [], ◌∷◌}
 use Prim.Native.Nat.{ℕ, zero, suc, ◌+◌, ◌-◌, ◌*◌, ◌/◌, ◌≤◌, ◌<◌}
 use native.Mathlib.Nat.{add-zero}
 use native.Mathlib.Omega.{arith}
 use native.Mathlib.Decide.{dec_lt}
+use borrow.Author.Tests.{ne_eqb}
 use lib.ListN.{length, take, drop, get_or, length-drop, drop_of_length-le}
 use lib.Seq.{drop-drop, get_or-drop, take_all}
+use Rattle.std.specs.Bool.{then_some}
+use Rattle.std.proofs.Common.{◌==◌, ◌↔◌, IsTrue, Option, Some, None}
+use Rattle.utf8.specs.Rows.{value3, value4, Two, Three, Four}
 use Rattle.utf8.specs.Utf8.{Scalar, Encodes, Begins, Utf8, FirstChar, IsUtf8, Rest, one, two, three, four, done, char, begins, nothing, good, bad}
 
 -- the bytes of w are those that f has at 0, 1 ..
@@ -26,36 +30,25 @@ taken [] s h r = refl
 taken (b ∷ w) [] h r = absurd (omega arith)
 taken (b ∷ w) (a ∷ s) h r = ap₂ ◌∷◌ r.0 (taken w s (omega arith) r.1)
 
--- the character number of a row: its bytes by their weights, less what its fixed bits come to
-abbrev pub value3 : List ℕ → ℕ
-value3 s = get_or s 0 0 * 0x1000 + get_or s 1 0 * 0x40 + get_or s 2 0 - 0xE2080
-
-abbrev pub value4 : List ℕ → ℕ
-value4 s = get_or s 0 0 * 0x40000 + get_or s 1 0 * 0x1000 + get_or s 2 0 * 0x40 + get_or s 3 0 - 0x3C82080
-
--- each row as a test of the bytes
+-- each row, of the bytes that s begins with
 abbrev pub One : List ℕ → ℕ → Type 0
 One s n = (n ≡ 1) × (1 ≤ length s) × (get_or s 0 0 < 0x80)
 
-abbrev pub Two : List ℕ → ℕ → Type 0
-Two s n = (n ≡ 2) × (2 ≤ length s) × (0xC2 ≤ get_or s 0 0) × (get_or s 0 0 < 0xE0) × (get_or s 1 0 / 64 ≡ 2)
+abbrev pub IsTwo : List ℕ → ℕ → Type 0
+IsTwo s n = (n ≡ 2) × (2 ≤ length s) × Two (get_or s 0 0) (get_or s 1 0)
 
-abbrev pub Three : List ℕ → ℕ → Type 0
-Three s n =
-    (n ≡ 3) × (3 ≤ length s) × (0xE0 ≤ get_or s 0 0) × (get_or s 0 0 < 0xF0) × (get_or s 1 0 / 64 ≡ 2) × (get_or s 2 0 / 64 ≡ 2)
-    × (0x800 ≤ value3 s) × (value3 s / 0x800 ≡ 0x1B → ⊥)
+abbrev pub IsThree : List ℕ → ℕ → Type 0
+IsThree s n = (n ≡ 3) × (3 ≤ length s) × Three (get_or s 0 0) (get_or s 1 0) (get_or s 2 0)
 
-abbrev pub Four : List ℕ → ℕ → Type 0
-Four s n =
-    (n ≡ 4) × (4 ≤ length s) × (0xF0 ≤ get_or s 0 0) × (get_or s 1 0 / 64 ≡ 2) × (get_or s 2 0 / 64 ≡ 2) × (get_or s 3 0 / 64 ≡ 2)
-    × (0x10000 ≤ value4 s) × (value4 s ≤ 0x10FFFF)
+abbrev pub IsFour : List ℕ → ℕ → Type 0
+IsFour s n = (n ≡ 4) × (4 ≤ length s) × Four (get_or s 0 0) (get_or s 1 0) (get_or s 2 0) (get_or s 3 0)
 
 -- P holds for a character of n bytes that s begins with, if it does in each row
 pub record Rows (s : List ℕ) (n : ℕ) (P : Type 0) : Type 0 where
   pub of_one : One s n → P
-  pub of_two : Two s n → P
-  pub of_three : Three s n → P
-  pub of_four : Four s n → P
+  pub of_two : IsTwo s n → P
+  pub of_three : IsThree s n → P
+  pub of_four : IsFour s n → P
 
 no_surrogate : {c : ℕ} → Scalar c → c / 0x800 ≡ 0x1B → ⊥
 no_surrogate (inl h) e = omega arith
@@ -74,32 +67,53 @@ rows {s} {n = n} b q =
       | four x y z w hx hy hz hw v lo hi e ↦ q.of_four (omega (arith, rw e at r))
     ]
 
-pub refused : {s : List ℕ} → ((n : ℕ) → Rows s n ⊥) → FirstChar s 0
-refused f = nothing refl (λ c n b. rows b (f n))
+pub refused : {s : List ℕ} → ((n : ℕ) → Rows s n ⊥) → FirstChar s None
+refused f = nothing (λ c n b. rows b (f n))
 
 module _ {s : List ℕ} where
-  here : {n : ℕ} (c : ℕ) → Scalar c → n ≤ length s → Encodes c (take n s) → FirstChar s n
-  here c p h e = begins c (record { scalar = p; within = h; encodes = e })
+  here : {n : ℕ} (c : ℕ) → Scalar c → n ≤ length s → Encodes c (take n s) → FirstChar s (Some n)
+  here {n} c p h e = begins c n (record { scalar = p; within = h; encodes = e })
 
   pub one_here : One s 1 → Begins s (get_or s 0 0) 1
   one_here t = record { scalar = inl (omega arith); within = omega arith; encodes = one (omega arith) (taken _ s (omega arith) (omega arith)) }
 
-  pub two_here : Two s 2 → FirstChar s 2
+  two_here : IsTwo s 2 → FirstChar s (Some 2)
   two_here t =
       here (get_or s 0 0 * 0x40 + get_or s 1 0 - 0x3080) (inl (omega arith)) (omega arith)
       (two (get_or s 0 0 - 0xC0) (get_or s 1 0 - 0x80) (omega arith) (omega arith) (omega arith) (omega arith) (omega arith) (taken _ s (omega arith) (omega arith)))
 
-  pub three_here : Three s 3 → FirstChar s 3
+  three_here : IsThree s 3 → FirstChar s (Some 3)
   three_here t =
-      here (value3 s) (scalar_of _ (omega arith) (omega arith)) (omega arith)
+      here (value3 (get_or s 0 0) (get_or s 1 0) (get_or s 2 0)) (scalar_of _ (omega arith) (omega arith)) (omega arith)
       (three (get_or s 0 0 - 0xE0) (get_or s 1 0 - 0x80) (get_or s 2 0 - 0x80) (omega arith) (omega arith) (omega arith) (omega arith) (omega arith) (omega arith)
       (taken _ s (omega arith) (omega arith)))
 
-  pub four_here : Four s 4 → FirstChar s 4
+  four_here : IsFour s 4 → FirstChar s (Some 4)
   four_here t =
-      here (value4 s) (inr (omega arith)) (omega arith)
+      here (value4 (get_or s 0 0) (get_or s 1 0) (get_or s 2 0) (get_or s 3 0)) (inr (omega arith)) (omega arith)
       (four (get_or s 0 0 - 0xF0) (get_or s 1 0 - 0x80) (get_or s 2 0 - 0x80) (get_or s 3 0 - 0x80) (omega arith) (omega arith) (omega arith) (omega arith) (omega arith)
       (omega arith) (omega arith) (taken _ s (omega arith) (omega arith)))
+
+-- ---- the arms of `char_len`: what a row's test decides
+by_test : {s : List ℕ} {o : Option ℕ} {r : Bool} {P : Type 0} (n : ℕ) → (IsTrue r ↔ P) → o ≡ then_some r n → (P → FirstChar s (Some n)) → ((P → ⊥) → FirstChar s None) → FirstChar s o
+by_test {s} {r = true} n p e f g = rw e (f (p.0 refl))
+by_test {s} {r = false} n p e f g = rw e (g (λ x. false≢true (p.1 x)))
+
+module _ {s : List ℕ} {o : Option ℕ} {r : Bool} where
+  pub two_arm : (IsTrue r ↔ Two (get_or s 0 0) (get_or s 1 0)) → o ≡ then_some r 2 → 0x80 ≤ get_or s 0 0 → get_or s 0 0 < 0xE0 → 2 ≤ length s → FirstChar s o
+  two_arm p e k l h =
+      by_test 2 p e (λ x. two_here (refl, h, x))
+      (λ f. refused (λ n. record { of_one = λ t. omega arith; of_two = λ t. f t.2; of_three = λ t. omega arith; of_four = λ t. omega arith }))
+
+  pub three_arm : (IsTrue r ↔ Three (get_or s 0 0) (get_or s 1 0) (get_or s 2 0)) → o ≡ then_some r 3 → 0xE0 ≤ get_or s 0 0 → get_or s 0 0 < 0xF0 → 3 ≤ length s → FirstChar s o
+  three_arm p e k l h =
+      by_test 3 p e (λ x. three_here (refl, h, x))
+      (λ f. refused (λ n. record { of_one = λ t. omega arith; of_two = λ t. omega arith; of_three = λ t. f t.2; of_four = λ t. omega arith }))
+
+  pub four_arm : (IsTrue r ↔ Four (get_or s 0 0) (get_or s 1 0) (get_or s 2 0) (get_or s 3 0)) → o ≡ then_some r 4 → 0xF0 ≤ get_or s 0 0 → 4 ≤ length s → FirstChar s o
+  four_arm p e k h =
+      by_test 4 p e (λ x. four_here (refl, h, x))
+      (λ f. refused (λ n. record { of_one = λ t. omega arith; of_two = λ t. omega arith; of_three = λ t. omega arith; of_four = λ t. f t.2 }))
 
 -- ---- a character's length, and its bytes
 pub begins_size : {s : List ℕ} {c n c' n' : ℕ} → Begins s c n → Begins s c' n' → n ≡ n'
@@ -116,11 +130,11 @@ begins_high b h (suc (suc (suc zero))) k = rows b (omega arith)
 begins_high b h (suc (suc (suc (suc i)))) k = rows b (omega arith)
 
 -- ---- what the contracts say has one answer
-pub char_len_one : {s : List ℕ} {r r' : ℕ} → FirstChar s r → FirstChar s r' → r ≡ r'
-char_len_one (begins c b) (begins c' b') = begins_size b b'
-char_len_one (begins c b) (nothing e f) = absurd (f c _ b)
-char_len_one (nothing e f) (begins c b) = absurd (f c _ b)
-char_len_one (nothing e f) (nothing e' f') = cc
+pub char_len_one : {s : List ℕ} {r r' : Option ℕ} → FirstChar s r → FirstChar s r' → r ≡ r'
+char_len_one (begins c n b) (begins c' n' b') = ap Some (begins_size b b')
+char_len_one (begins c n b) (nothing f) = absurd (f c n b)
+char_len_one (nothing f) (begins c n b) = absurd (f c n b)
+char_len_one (nothing f) (nothing f') = refl
 
 pub is_utf8_one : {s : List ℕ} {r r' : Bool} → IsUtf8 s r → IsUtf8 s r' → r ≡ r'
 is_utf8_one (good e u) (good e' u') = cc
@@ -156,22 +170,28 @@ module _ {s : List ℕ} where
   pub rest_stop : {n : ℕ} → n < length s → Rest s n → ((c m : ℕ) → Begins (drop n s) c m → ⊥) → Utf8 s → ⊥
   rest_stop {n} h r f u = none_of (omega (arith, length-drop n s)) f (r.there u)
 
--- ---- the loop of `is_utf8`; t is what it lends from i on
+-- ---- what a text lends from i on, and the character there
 pub lent : (s : List ℕ) (i : ℕ) → take (length s - i) (drop i s) ≡ drop i s
 lent s i = take_all (length s - i) (drop i s) (omega (arith, length-drop i s))
 
-pub char_within : {s : List ℕ} {n : ℕ} → FirstChar s n → n ≤ length s
-char_within (begins c b) = b.within
-char_within (nothing e f) = omega arith
+pub char_within : {s : List ℕ} {n : ℕ} → FirstChar s (Some n) → n ≤ length s
+char_within (begins c n b) = b.within
 
-module _ {s : List ℕ} {i : ℕ} (r : Rest s i) where
-  pub next_ascii : i < length s → get_or s i 0 < 0x80 → Rest s (i + 1)
-  next_ascii h k = rest_more r (rest_ascii (omega (arith, length-drop i s)) (rw (get_or-drop, add-zero) k))
+pub next_ascii : {s : List ℕ} {i : ℕ} → Rest s i → i < length s → get_or s i 0 < 0x80 → Rest s (i + 1)
+next_ascii {s} {i} r h k = rest_more r (rest_ascii (omega (arith, length-drop i s)) (rw (get_or-drop, add-zero) k))
 
-  pub next_char : {t : List ℕ} {n : ℕ} → FirstChar t n → t ≡ drop i s → (n ≡ 0 → ⊥) → Rest s (i + n)
-  next_char (begins c b) e k = rest_more r (rw e at (rest_char b))
-  next_char (nothing z f) e k = absurd (k z)
+-- ---- the loop of `is_utf8`: the text is UTF-8 exactly if t, what is left of it, is
+pub record Left (s t : List ℕ) : Type 0 where
+  pub there : Utf8 s → Utf8 t
+  pub back : Utf8 t → Utf8 s
 
-  pub no_char : {t : List ℕ} {n : ℕ} → FirstChar t n → t ≡ drop i s → n ≡ 0 → i < length s → IsUtf8 s false
-  no_char (begins c b) e k h = absurd (omega (arith, begins_some b))
-  no_char (nothing z f) e k h = bad refl (rest_stop h r (rw e at f))
+module _ {s t : List ℕ} (r : Left s t) where
+  pub left_more : {n : ℕ} → FirstChar t (Some n) → Left s (take (length t - n) (drop n t))
+  left_more (begins c n b) = rw (lent t n) (record { there = λ u. after b (r.there u); back = λ u. r.back (char c n b u) })
+
+  pub left_end : {b : Bool} → FirstChar t None → b ≡ (length t == 0) → IsUtf8 s b
+  left_end f e = rw e (go t f r)
+    where
+      go : (t : List ℕ) → FirstChar t None → Left s t → IsUtf8 s (length t == 0)
+      go [] f r = good refl (r.back done)
+      go (b ∷ t) (nothing f) r = bad (ne_eqb (length (b ∷ t)) 0 (λ e. omega arith)) (λ u. none_of (omega arith) f (r.there u))

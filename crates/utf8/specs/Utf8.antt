@@ -1,5 +1,5 @@
 -- UTF-8 as RFC 3629 has it. Assumes nothing.
-use Rattle.std.specs.Prelude.{◌≡◌, Bool, true, false, ◌⊎◌, List, [], ◌∷◌, ℕ, ◌+◌, ◌*◌, ◌^◌, ◌≤◌, ◌<◌, length, take, drop}
+use Rattle.std.specs.Prelude.{◌≡◌, Bool, true, false, ◌⊎◌, List, [], ◌∷◌, ℕ, ◌+◌, ◌*◌, ◌^◌, ◌≤◌, ◌<◌, length, take, drop, Option, Some, None}
 
 -- section 3: what is encoded goes from U+0000 to U+10FFFF, without the surrogates U+D800 to U+DFFF
 abbrev pub Scalar : ℕ → Type 0
@@ -25,10 +25,10 @@ pub data Utf8 : List ℕ → Type 0 where
   done : Utf8 []
   char : {s : List ℕ} (c n : ℕ) → Begins s c n → Utf8 (drop n s) → Utf8 s
 
--- what `char_len` answers: the length of the character that s begins with, 0 where it begins with none
-pub data FirstChar (s : List ℕ) (r : ℕ) : Type 0 where
-  begins : (c : ℕ) → Begins s c r → FirstChar s r
-  nothing : r ≡ 0 → ((c n : ℕ) → Begins s c n → ⊥) → FirstChar s r
+-- what `char_len` answers: the length of the character that s begins with, if it begins with one
+pub data FirstChar (s : List ℕ) : Option ℕ → Type 0 where
+  begins : (c n : ℕ) → Begins s c n → FirstChar s (Some n)
+  nothing : ((c n : ℕ) → Begins s c n → ⊥) → FirstChar s None
 
 -- what `is_utf8` answers: whether s is UTF-8 from its start to its end
 pub data IsUtf8 (s : List ℕ) (r : Bool) : Type 0 where

@@ -13,4 +13,4 @@ unfolding type_name same
 none_between text a b e g h = let z : b - a ≡ 0 = omega arith in rw z refl
 
 pub returns-then-to-from : goal.returns-then-to-from
-returns-then-to-from c = none_between _ _ _ c.lesser-from.ensures c.lesser-to.ensures c.if-to-from.true
+returns-then-to-from c = none_between _ _ _ c.min-from.ensures c.min-to.ensures c.if-to-from.true

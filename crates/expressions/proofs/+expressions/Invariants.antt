@@ -6,88 +6,88 @@ use Rattle.grammar.specs.Grammar as L
 use Rattle.expressions.proofs.+expressions.Given as goal
 
 abbrev pub decreases-arguments : goal.decreases-arguments
-decreases-arguments l = size l.tokens.now l.cursor 31
+decreases-arguments l = size l.source.now.tokens.now l.cursor 31
 
-abbrev pub invariant-arguments-loop-p : goal.invariant-arguments-loop-p
-invariant-arguments-loop-p l = Listing l.text l.tokens (G.rule G.expr) l.initial.p l.initial.nodes l.p l.nodes
+abbrev pub invariant-arguments-loop-nodes : goal.invariant-arguments-loop-nodes
+invariant-arguments-loop-nodes l = Listing l.source.text.now l.source.tokens.now (G.rule G.expr) l.initial.p l.initial.nodes l.p l.nodes
 
-abbrev pub decreases-arguments-loop-p : goal.decreases-arguments-loop-p
-decreases-arguments-loop-p l = size l.tokens l.p 0
+abbrev pub decreases-arguments-loop-nodes : goal.decreases-arguments-loop-nodes
+decreases-arguments-loop-nodes l = size l.source.tokens.now l.p 0
 
 abbrev pub decreases-array : goal.decreases-array
-decreases-array l = size l.tokens.now l.cursor 6
+decreases-array l = size l.source.now.tokens.now l.cursor 6
 
 abbrev pub decreases-atom : goal.decreases-atom
-decreases-atom l = size l.tokens.now l.cursor 7
+decreases-atom l = size l.source.now.tokens.now l.cursor 7
 
 abbrev pub decreases-chain : goal.decreases-chain
-decreases-chain l = size l.tokens.now l.cursor 3
+decreases-chain l = size l.source.now.tokens.now l.cursor 3
 
 abbrev pub invariant-chain-loop-p : goal.invariant-chain-loop-p
-invariant-chain-loop-p l = Looping l.text l.tokens (L.link l.n) l.initial.p l.initial.nodes l.p l.nodes
+invariant-chain-loop-p l = Looping l.source.text.now l.source.tokens.now (L.link l.n) l.initial.p l.initial.nodes l.p l.nodes
 
 abbrev pub decreases-chain-loop-p : goal.decreases-chain-loop-p
-decreases-chain-loop-p l = size l.tokens l.p 0
+decreases-chain-loop-p l = size l.source.tokens.now l.p 0
 
 abbrev pub decreases-expr : goal.decreases-expr
-decreases-expr l = size l.tokens.now l.cursor 30
+decreases-expr l = size l.source.now.tokens.now l.cursor 30
 
 abbrev pub decreases-exprs : goal.decreases-exprs
-decreases-exprs l = size l.tokens.now l.cursor 3
+decreases-exprs l = size l.source.now.tokens.now l.cursor 3
 
 abbrev pub invariant-exprs-loop-p : goal.invariant-exprs-loop-p
-invariant-exprs-loop-p l = Looping l.text l.tokens (L.another (G.rule G.expr)) l.initial.p l.initial.nodes l.p l.nodes
+invariant-exprs-loop-p l = Looping l.source.text.now l.source.tokens.now (L.another (G.rule G.expr)) l.initial.p l.initial.nodes l.p l.nodes
 
 abbrev pub decreases-exprs-loop-p : goal.decreases-exprs-loop-p
-decreases-exprs-loop-p l = size l.tokens l.p 0
+decreases-exprs-loop-p l = size l.source.tokens.now l.p 0
 
 abbrev pub decreases-field : goal.decreases-field
-decreases-field l = size l.tokens.now l.cursor 5
+decreases-field l = size l.source.now.tokens.now l.cursor 5
 
 abbrev pub decreases-level : goal.decreases-level
-decreases-level l = size l.tokens.now l.cursor 20
+decreases-level l = size l.source.now.tokens.now l.cursor 20
 
 abbrev pub decreases-level_at : goal.decreases-level_at
-decreases-level_at l = size l.tokens.now (begun l.at l.count l.nest l.furthest) 19
+decreases-level_at l = size l.source.now.tokens.now (begun l.at l.count l.nest l.furthest) 19
 
 abbrev pub invariant-level_at-loop-i : goal.invariant-level_at-loop-i
-invariant-level_at-loop-i l = Climbing l.text l.tokens l.at l.count l.nest l.furthest l.n l.initial.p l.initial.nodes l.i l.p l.nodes
+invariant-level_at-loop-i l = Climbing l.source.text.now l.source.tokens.now l.at l.count l.nest l.furthest l.n l.initial.p l.initial.nodes l.i l.p l.nodes
 
 abbrev pub decreases-level_at-loop-i : goal.decreases-level_at-loop-i
 decreases-level_at-loop-i l = l.n - l.i
 
 abbrev pub decreases-new_expr : goal.decreases-new_expr
-decreases-new_expr l = size l.tokens.now l.cursor 6
+decreases-new_expr l = size l.source.now.tokens.now l.cursor 6
 
 abbrev pub decreases-paren_or_tuple : goal.decreases-paren_or_tuple
-decreases-paren_or_tuple l = size l.tokens.now l.cursor 6
+decreases-paren_or_tuple l = size l.source.now.tokens.now l.cursor 6
 
 abbrev pub decreases-postfix_op : goal.decreases-postfix_op
-decreases-postfix_op l = size l.tokens.now l.cursor 4
+decreases-postfix_op l = size l.source.now.tokens.now l.cursor 4
 
 abbrev pub decreases-postfixed : goal.decreases-postfixed
-decreases-postfixed l = size l.tokens.now l.cursor 8
+decreases-postfixed l = size l.source.now.tokens.now l.cursor 8
 
-abbrev pub invariant-postfixed-loop-p : goal.invariant-postfixed-loop-p
-invariant-postfixed-loop-p l = Leading l.text l.tokens L.atom L.postfix l.initial.p l.initial.nodes l.first l.p l.nodes
+abbrev pub invariant-postfixed-loop-first : goal.invariant-postfixed-loop-first
+invariant-postfixed-loop-first l = Leading l.source.text.now l.source.tokens.now L.atom L.postfix l.initial.p l.initial.nodes l.first l.p l.nodes
 
-abbrev pub decreases-postfixed-loop-p : goal.decreases-postfixed-loop-p
-decreases-postfixed-loop-p l = size l.tokens l.p 0
+abbrev pub decreases-postfixed-loop-first : goal.decreases-postfixed-loop-first
+decreases-postfixed-loop-first l = size l.source.tokens.now l.p 0
 
 abbrev pub decreases-struct_literal : goal.decreases-struct_literal
-decreases-struct_literal l = size l.tokens.now l.cursor 6
+decreases-struct_literal l = size l.source.now.tokens.now l.cursor 6
 
 abbrev pub decreases-struct_literal_fields : goal.decreases-struct_literal_fields
-decreases-struct_literal_fields l = size l.tokens.now l.cursor 31
+decreases-struct_literal_fields l = size l.source.now.tokens.now l.cursor 31
 
-abbrev pub invariant-struct_literal_fields-loop-p : goal.invariant-struct_literal_fields-loop-p
-invariant-struct_literal_fields-loop-p l = Listing l.text l.tokens (L.field (G.rule G.expr)) l.initial.p l.initial.nodes l.p l.nodes
+abbrev pub invariant-struct_literal_fields-loop-nodes : goal.invariant-struct_literal_fields-loop-nodes
+invariant-struct_literal_fields-loop-nodes l = Listing l.source.text.now l.source.tokens.now (L.field (G.rule G.expr)) l.initial.p l.initial.nodes l.p l.nodes
 
-abbrev pub decreases-struct_literal_fields-loop-p : goal.decreases-struct_literal_fields-loop-p
-decreases-struct_literal_fields-loop-p l = size l.tokens l.p 0
+abbrev pub decreases-struct_literal_fields-loop-nodes : goal.decreases-struct_literal_fields-loop-nodes
+decreases-struct_literal_fields-loop-nodes l = size l.source.tokens.now l.p 0
 
 abbrev pub decreases-unary : goal.decreases-unary
-decreases-unary l = size l.tokens.now l.cursor 10
+decreases-unary l = size l.source.now.tokens.now l.cursor 10
 
 abbrev pub decreases-unary_at : goal.decreases-unary_at
-decreases-unary_at l = size l.tokens.now (begun l.at l.count l.nest l.furthest) 9
+decreases-unary_at l = size l.source.now.tokens.now (begun l.at l.count l.nest l.furthest) 9

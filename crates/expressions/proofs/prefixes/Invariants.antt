@@ -2,8 +2,8 @@
 use Rattle.cursor.proofs.Reading.{◌-◌, ◌/◌, length, Counting}
 use Rattle.expressions.proofs.prefixes.Given as goal
 
-abbrev pub invariant-loop-s : goal.invariant-loop-s
-invariant-loop-s l = Counting l.tokens l.at l.end l.s
+abbrev pub invariant-loop-end : goal.invariant-loop-end
+invariant-loop-end l = Counting l.tokens l.at l.end
 
-abbrev pub decreases-loop-s : goal.decreases-loop-s
-decreases-loop-s l = length l.tokens / 16 - l.end
+abbrev pub decreases-loop-end : goal.decreases-loop-end
+decreases-loop-end l = length l.tokens / 16 - l.end

@@ -1,5 +1,5 @@
 use borrow.Author.Rules.{rules}
-use Rattle.numeral.proofs.Entries.{answer_long, answer_spelling, answer_overflow, answer_format, answer_number}
+use Rattle.numeral.proofs.Entries.{answer_long, answer_spelling, answer_read}
 use Rattle.numeral.proofs.answer.Goals as goal
 
 pub returns-then-spelling-gt65535 : goal.returns-then-spelling-gt65535
@@ -8,11 +8,5 @@ returns-then-spelling-gt65535 c = search (rules, answer_long)
 pub returns-then-not-is_spelling : goal.returns-then-not-is_spelling
 returns-then-not-is_spelling c = search (rules, answer_spelling)
 
-pub returns-in-Number : goal.returns-in-Number
-returns-in-Number c = search (rules, answer_number)
-
-pub returns-in-Overflow : goal.returns-in-Overflow
-returns-in-Overflow c = search (rules, answer_overflow)
-
-pub returns-in-InvalidFormat : goal.returns-in-InvalidFormat
-returns-in-InvalidFormat c = search (rules, answer_format)
+pub returns : goal.returns
+returns c = answer_read c.args.spelling.now _ (search rules) c.is_spelling.ensures _ _ (search rules) c.parse_number_literal.ensures c.map_err.ensures.cases

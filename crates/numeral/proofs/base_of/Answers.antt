@@ -1,29 +1,25 @@
 use borrow.Author.Rules.{rules}
-use borrow.Author.Tests.{ne_eqb}
 use Rattle.numeral.specs.Numeral.{base_of}
-use Rattle.numeral.proofs.Rests.{base_short, base_letter, base_none}
+use Rattle.numeral.proofs.Rests.{base_short, base_letter, base_none, base_other}
 use Rattle.numeral.proofs.base_of.Goals as goal
 
-pub returns-then-slice-lt2 : goal.returns-then-slice-lt2
+pub returns-in-48 : goal.returns-in-48
 unfolding base_of
-returns-then-slice-lt2 c = search (rules, base_short)
+returns-in-48 c = search (rules, base_letter)
 
-pub returns-then-slice-ne48 : goal.returns-then-slice-ne48
+pub returns-in-48-2 : goal.returns-in-48-2
 unfolding base_of
-returns-then-slice-ne48 c = (rw (ne_eqb _ _ c.if-slice-ne48.true), search rules)
+returns-in-48-2 c = search (rules, base_letter)
 
-pub returns-in-120 : goal.returns-in-120
+pub returns-in-48-3 : goal.returns-in-48-3
 unfolding base_of
-returns-in-120 c = search (rules, base_letter)
-
-pub returns-in-111 : goal.returns-in-111
-unfolding base_of
-returns-in-111 c = search (rules, base_letter)
-
-pub returns-in-98 : goal.returns-in-98
-unfolding base_of
-returns-in-98 c = search (rules, base_letter)
+returns-in-48-3 c = search (rules, base_letter)
 
 pub returns-in_default : goal.returns-in_default
-unfolding base_of
-returns-in_default c = search (rules, base_none)
+returns-in_default c = search (rules, base_short)
+
+pub returns-in_default-2 : goal.returns-in_default-2
+returns-in_default-2 c = search (rules, base_none)
+
+pub returns-in_default-3 : goal.returns-in_default-3
+returns-in_default-3 c = search (rules, base_other)

@@ -1,16 +1,15 @@
-use borrow.Author.Tests.{lt-ltb, eq-eqb, ne_eqb}
-use native.Mathlib.Omega.{arith}
-use Rattle.numeral.specs.Numeral.{cut_at}
+use borrow.Author.Rules.{rules}
+use Rattle.numeral.proofs.Cuts.{cut_here, cut_past, cut_start, cut_absent}
 use Rattle.numeral.proofs.cut_at.Goals as goal
 
-pub returns-then-k-eq0 : goal.returns-then-k-eq0
-unfolding cut_at
-returns-then-k-eq0 c = rw c.if-k-eq0.true
+pub returns-in-Some : goal.returns-in-Some
+returns-in-Some c = search (rules, cut_here)
 
-pub returns-then-n-k : goal.returns-then-n-k
-unfolding cut_at
-returns-then-n-k c = rw (lt-ltb 0 c.args.k (omega arith), eq-eqb _ _ c.if-n-k.true)
+pub returns-in_default : goal.returns-in_default
+returns-in_default c = search (rules, cut_past)
 
-pub returns : goal.returns
-unfolding cut_at
-returns c = rw (lt-ltb 0 c.args.k (omega arith), ne_eqb _ _ c.if-n-k.false)
+pub returns-in_default-2 : goal.returns-in_default-2
+returns-in_default-2 c = search (rules, cut_start)
+
+pub returns-in_default-3 : goal.returns-in_default-3
+returns-in_default-3 c = search (rules, cut_absent)

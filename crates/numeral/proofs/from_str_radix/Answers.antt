@@ -1,24 +1,24 @@
 use borrow.Author.Rules.{rules}
-use Rattle.numeral.proofs.Digits.{product_fits, next_fits, read_none, read_more, read_over, read_format, read_end}
+use Rattle.numeral.proofs.Digits.{product_fits, next_fits, read_none, step_more, step_over, step_format, read_end}
 use Rattle.numeral.proofs.from_str_radix.Goals as goal
 
-pub loop-i-init : goal.loop-i-init
-loop-i-init c = read_none
+pub loop-b-init : goal.loop-b-init
+loop-b-init c = read_none
 
-pub returns-then-d-radix : goal.returns-then-d-radix
-returns-then-d-radix c = search (rules, read_format)
+pub returns-in_default : goal.returns-in_default
+returns-in_default c = search (rules, step_format)
 
 pub returns-then-overflows : goal.returns-then-overflows
-returns-then-overflows c = search (rules, read_over)
+returns-then-overflows c = search (rules, step_over)
 
-pub overflow_mul-v : goal.overflow_mul-v
-overflow_mul-v c = search (rules, product_fits)
+pub overflow_mul-value : goal.overflow_mul-value
+overflow_mul-value c = search (rules, product_fits)
 
-pub overflow_add-v : goal.overflow_add-v
-overflow_add-v c = search (rules, next_fits)
+pub overflow_add-value : goal.overflow_add-value
+overflow_add-value c = search (rules, next_fits)
 
-pub loop-i-preserved : goal.loop-i-preserved
-loop-i-preserved c = search (rules, read_more)
+pub loop-b-preserved : goal.loop-b-preserved
+loop-b-preserved c = search (rules, step_more)
 
 pub returns : goal.returns
 returns c = search (rules, read_end)

@@ -5,11 +5,11 @@ use Rattle.numeral.proofs.rfind.Goals as goal
 pub loop-i-init : goal.loop-i-init
 loop-i-init c = sought_none
 
-pub returns-then-starts_with : goal.returns-then-starts_with
-returns-then-starts_with c = search (rules, sought_stop)
+pub returns-then-starts_with-clause-value : goal.returns-then-starts_with-clause-value
+returns-then-starts_with-clause-value c = search (rules, sought_stop)
 
 pub loop-i-preserved : goal.loop-i-preserved
 loop-i-preserved c = search (rules, sought_more)
 
-pub returns : goal.returns
-returns c = search (rules, sought_end)
+pub returns-clause-value : goal.returns-clause-value
+returns-clause-value c = search (rules, sought_end)

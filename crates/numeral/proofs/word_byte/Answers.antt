@@ -5,5 +5,5 @@ use Rattle.numeral.proofs.word_byte.Goals as goal
 pub returns-then-b-eq95 : goal.returns-then-b-eq95
 returns-then-b-eq95 c = search (rules, under_word)
 
-pub returns : goal.returns
-returns c = search (rules, word_is)
+pub returns-else-b-eq95 : goal.returns-else-b-eq95
+returns-else-b-eq95 c = search (rules, word_is)

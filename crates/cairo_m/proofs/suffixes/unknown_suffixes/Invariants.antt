@@ -1,9 +1,5 @@
-use Prim.Native.Nat.{◌-◌}
 use Rattle.cairo_m.proofs.Noting.{Noting}
 use Rattle.cairo_m.proofs.suffixes.unknown_suffixes.Given as goal
 
 abbrev pub invariant-loop-i : goal.invariant-loop-i
 invariant-loop-i l = Noting l.tokens l.initial.diagnostics l.diagnostics l.count l.i
-
-abbrev pub decreases-loop-i : goal.decreases-loop-i
-decreases-loop-i l = l.n - l.i

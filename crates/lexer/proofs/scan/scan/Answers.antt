@@ -8,6 +8,7 @@ use Rattle.patterns.specs.Bytes.{in_set, word}
 use Rattle.patterns.proofs.Runs.{run_within, rest_is}
 use Rattle.lexer.specs.Scans.{Begun}
 use Rattle.lexer.proofs.Scans.{Marked, found_name, found_numeral, found_nothing, found_lone, found_last, found_slash, found_single, found_pair, found_comment, found_broken, line_within}
+use Rattle.lexer.proofs.scan.scan.Goals.{then-single-via-then-single, then-single-via-else-single+then-t-eq1}
 use Rattle.lexer.proofs.scan.scan.Goals as goal
 
 marked : {s : List ℕ} {c : ℕ} → Begun s c → c < 0x80 → Marked s c
@@ -20,34 +21,33 @@ pub slice_bounds-keyword-end : goal.slice_bounds-keyword-end
 slice_bounds-keyword-end c = simp length-take (omega (arith, run_within (in_set word) c.args.t.now))
 
 pub returns-then-c-ge-LETTER : goal.returns-then-c-ge-LETTER
-returns-then-c-ge-LETTER c = found_name c.requires.begun (omega arith) (search) (search)
+returns-then-c-ge-LETTER c = rw c.unwrap_or-kind.ensures (found_name c.requires.begun (omega arith) (search) c.keyword.ensures)
 
-pub strange-requires : goal.strange-requires
-strange-requires c = let g = c.requires.begun in record { t_nonzero = g.some; stuck = found_nothing g (omega arith) (omega arith) }
+pub strange-requires-clause-stuck : goal.strange-requires-clause-stuck
+strange-requires-clause-stuck c = found_nothing c.requires.begun (omega arith) (omega arith)
 
 pub returns-then-single : goal.returns-then-single
-returns-then-single c = found_lone (marked c.requires.begun (omega arith)) (sym c.single.ensures ∙ c.if-single.true)
+returns-then-single c =
+    let m = marked c.requires.begun (omega arith) in
+    elim c.then-single.branch [
+      | then-single-via-then-single w ↦ found_lone m (sym c.single.ensures ∙ w.if-single.true)
+      | then-single-via-else-single+then-t-eq1 w ↦ found_last m w.if-t-eq1.true
+    ]
 
-pub returns-then-t-eq1 : goal.returns-then-t-eq1
-returns-then-t-eq1 c = found_last (marked c.requires.begun (omega arith)) (search)
+pub returns-then-t-ne47 : goal.returns-then-t-ne47
+returns-then-t-ne47 c = found_slash (marked c.requires.begun (omega arith)) (search) (search)
 
-pub returns-then-d-ne47 : goal.returns-then-d-ne47
-returns-then-d-ne47 c = found_slash (marked c.requires.begun (omega arith)) (search) (search)
+pub returns-in_err-line_run : goal.returns-in_err-line_run
+returns-in_err-line_run c = found_broken (marked c.requires.begun (omega arith)) (search) (search) (search rules) (search rest_is) c.line_run.ensures c.in_err-line_run.was _ c.from_residual.ensures.0
 
-pub overflow_add-n : goal.overflow_add-n
-overflow_add-n c = omega (arith, simp (length-take, length-drop) at (line_within c.line_run-n.ensures))
+pub overflow_add-result : goal.overflow_add-result
+overflow_add-result c = omega (arith, simp (length-take, length-drop) at (line_within c.line_run.ensures c.in_ok-line_run.was))
 
-pub returns-then-t-n-ne10 : goal.returns-then-t-n-ne10
-returns-then-t-n-ne10 c = found_broken (marked c.requires.begun (omega arith)) (search) (search) (search rules) c.line_run-n.ensures (search rest_is) (search) (search)
+pub returns-then-c : goal.returns-then-c
+returns-then-c c = found_comment (marked c.requires.begun (omega arith)) (search) (search) (search rules) (search rest_is) c.line_run.ensures c.in_ok-line_run.was
 
-pub returns-else-t-n-ne10 : goal.returns-else-t-n-ne10
-returns-else-t-n-ne10 c = found_comment (marked c.requires.begun (omega arith)) (search) (search) (search rules) c.line_run-n.ensures (search rest_is) (λ h. search)
+pub returns-in-Some : goal.returns-in-Some
+returns-in-Some c = found_pair (marked c.requires.begun (omega arith)) (search rules) (search) c.pair_of.ensures c.in-Some.is
 
-pub returns-else-n-t : goal.returns-else-n-t
-returns-else-n-t c = found_comment (marked c.requires.begun (omega arith)) (search) (search) (search rules) c.line_run-n.ensures (search rest_is) (λ h. absurd (omega arith))
-
-pub returns-then-p-eq0 : goal.returns-then-p-eq0
-returns-then-p-eq0 c = found_single (marked c.requires.begun (omega arith)) (search) c.pair_of-p.ensures (search)
-
-pub returns : goal.returns
-returns c = found_pair (marked c.requires.begun (omega arith)) (search rules) (search) (search) (search)
+pub returns-in-None : goal.returns-in-None
+returns-in-None c = found_single (marked c.requires.begun (omega arith)) (search) c.pair_of.ensures c.in-None.is

@@ -1,15 +1,15 @@
 -- `items` meets its contract. Assumes nothing.
-use Rattle.cursor.proofs.Reading.{refl, ◌∙◌, arith, on, further, rounds_next, rounds_end, rounds_off}
+use Rattle.cursor.proofs.Reading.{refl, ◌∙◌, arith, same, not_same, on, further, rounds_next, rounds_end, rounds_off}
 use Rattle.parser.proofs.items.items.Goals as goal
 
-pub returns-then-q-eq-FAILED : goal.returns-then-q-eq-FAILED
-returns-then-q-eq-FAILED c = rounds_end c.loop-p.invariant c.loop-p-test.true c.item-q.ensures c.if-q-eq-FAILED.true c.rewind.ensures
+pub returns-then-eq : goal.returns-then-eq
+returns-then-eq c = rounds_end c.loop-nodes.invariant (same c.loop-nodes-test.ensures) c.item-q.ensures (same c.if-eq.ensures) c.rewind.ensures
 
-pub loop-p-smaller : goal.loop-p-smaller
-loop-p-smaller c = further 0 0 refl c.loop-p-test.true (on c.item-q.ensures) tt (omega arith)
+pub loop-nodes-smaller : goal.loop-nodes-smaller
+loop-nodes-smaller c = further 0 0 refl (same c.loop-nodes-test.ensures) (on c.item-q.ensures) tt (omega arith)
 
-pub loop-p-preserved : goal.loop-p-preserved
-loop-p-preserved c = rounds_next c.loop-p.invariant c.item-q.ensures c.if-q-eq-FAILED.false (c.item-q.auto.nodes ∙ c.loop-p.invariant.kept)
+pub loop-nodes-preserved : goal.loop-nodes-preserved
+loop-nodes-preserved c = rounds_next c.loop-nodes.invariant c.item-q.ensures (not_same c.if-eq.ensures) (c.item-q.auto.nodes ∙ c.loop-nodes.invariant.kept)
 
 pub returns : goal.returns
-returns c = rounds_off c.loop-p.invariant c.loop-p-test.false
+returns c = rounds_off c.loop-nodes.invariant (not_same c.loop-nodes-test.ensures)

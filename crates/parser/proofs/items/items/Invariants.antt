@@ -3,8 +3,8 @@ use Rattle.cursor.proofs.Reading.{size, Looping}
 use Rattle.grammar.specs.Derive as G
 use Rattle.parser.proofs.items.items.Given as goal
 
-abbrev pub invariant-loop-p : goal.invariant-loop-p
-invariant-loop-p l = Looping l.text l.tokens (G.rule G.item) l.initial.p l.initial.nodes l.p l.nodes
+abbrev pub invariant-loop-nodes : goal.invariant-loop-nodes
+invariant-loop-nodes l = Looping l.source.text.now l.source.tokens.now (G.rule G.item) l.initial.p l.initial.nodes l.p l.nodes
 
-abbrev pub decreases-loop-p : goal.decreases-loop-p
-decreases-loop-p l = size l.tokens l.p 0
+abbrev pub decreases-loop-nodes : goal.decreases-loop-nodes
+decreases-loop-nodes l = size l.source.tokens.now l.p 0

@@ -1,0 +1,71 @@
+// The cases of a file, in turn.
+ghost use Rattle.std.specs.Prelude.{◌≡◌, ◌≤◌, ◌<◌, ◌+◌, ◌==◌, IfSome, OnSome, IfNone, take, drop, length, [], ◌∷◌};
+ghost use Rattle.std.specs.List.{position_or_len, before_first, after_first};
+
+// The bytes that are left to read.
+#[derive(Clone, Copy)]
+pub struct Cases<'a> {
+    pub rest: &'a [u8],
+}
+
+impl<'a> Cases<'a> {
+    // The bytes up to the next line feed, which is passed, or up to the end; none at the end.
+    pub fn line(&mut self) -> Option<&'a [u8]>
+        ensures some { IfSome result (λ line. line.now ≡ before_first (λ b. b == 10) self.old.rest.now) }
+        ensures passed { OnSome result (self.new.rest.now ≡ after_first (λ b. b == 10) self.old.rest.now) }
+        ensures further { OnSome result (length self.new.rest.now < length self.old.rest.now) }
+        ensures none { IfNone result (self.old.rest.now ≡ []) }
+    {
+        let all = self.rest;
+        if all.is_empty() {
+            return None;
+        }
+        self.bytes(line_end(all))
+    }
+
+    // The decimal number that comes next; the byte that ends it is passed.
+    pub fn number(&mut self) -> usize
+        ensures never_back { length self.new.rest.now ≤ length self.old.rest.now }
+        ensures further { 0 < length self.old.rest.now → length self.new.rest.now < length self.old.rest.now }
+    {
+        let mut value = 0;
+        while let Some(b) = self.rest.split_off_first() {
+            match b {
+                b'0'..=b'9' => value = with_digit(value, b - b'0'),
+                _ => break,
+            }
+        }
+        value
+    }
+
+    // The next n bytes, and the byte after them is passed.
+    pub fn bytes(&mut self, n: usize) -> Option<&'a [u8]>
+        ensures some { IfSome result (λ bytes. bytes.now ≡ take n self.old.rest.now) }
+        ensures passed { OnSome result (self.new.rest.now ≡ drop (n + 1) self.old.rest.now) }
+        ensures none { IfNone result (length self.old.rest.now < n) }
+        ensures same { IfNone result (self.new.rest.now ≡ self.old.rest.now) }
+    {
+        let bytes = self.rest.get(..n)?;
+        self.rest = self.rest.get(n + 1..).unwrap_or(&[]);
+        Some(bytes)
+    }
+}
+
+// The place of the first line feed, or the end.
+fn line_end(bytes: &[u8]) -> usize
+    ensures within { result ≤ length bytes.now }
+    ensures first { result ≡ position_or_len (λ b. b == 10) bytes.now }
+{
+    bytes
+        .iter()
+        .position(|b| *b == b'\n')
+        .unwrap_or(bytes.len())
+}
+
+// One digit more, as long as the number fits.
+fn with_digit(value: usize, digit: u8) -> usize {
+    value
+        .checked_mul(10)
+        .and_then(|tens| tens.checked_add(digit as usize))
+        .unwrap_or(value)
+}
