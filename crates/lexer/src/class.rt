@@ -151,7 +151,6 @@ impl Tables {
         }
         let at = (k as usize) * 9 + 256;
         let size = self.keys[at + 8] as usize;
-        // `==` of slices would call the C library from four bytes on.
         if is_word(w, &self.keys[at..at + size]) {
             return Some(k);
         }

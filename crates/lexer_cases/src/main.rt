@@ -44,7 +44,7 @@ fn utf8_case<W: Write>(out: &mut W, text: &[u8]) -> io::Result<()> {
     write!(out, "u {valid} {len}")
 }
 
-// n BYTES: outcome, value, suffix, base and reason of the C entry, then the answer as an enum. The places for the answer
+// n BYTES: outcome, value, suffix, base and reason of the C entry, then the answer as a Result. The places for the answer
 // hold something else before the call.
 fn numeral_case<W: Write>(out: &mut W, spelling: &[u8]) -> io::Result<()> {
     let mut value: u64 = 0xAAAA_AAAA_AAAA_AAAA;
