@@ -17,13 +17,11 @@ TOP = os.path.dirname(os.path.dirname(os.path.abspath(__file__)))
 STEPS, CRATES = "cursor", ("expressions", "statements", "parser")
 folder = lambda crate: os.path.join(TOP, "crates", crate)
 # a contract's relation: the law that makes a reading of it, and the law that says how far on it is
-READ = {"Reads": ("", "on"), "Puts": ("one_put", "on_put"), "Grown": ("one_grown", "on_grown"), "Step": ("one_step", "on_step"), "Free": ("one_free", "on_free")}
-# those that speak of one text
-TEXTED = ("Reads", "Inside", "Ends", "")
-OWN = {"Reads": "", "Puts": "λ text. ", "Grown": "λ text w. ", "Step": "λ text T. ", "Free": "λ text w T. "}
-MAKE = {"Puts": "puts", "Grown": "grown", "Step": "steps", "Free": "free"}
+READ = {"Parses": ("", "on"), "Grown": ("one_grown", "on_grown"), "Step": ("one_step", "on_step"), "Free": ("one_free", "on_free")}
+# what makes it of a reading of any text, and of what else it is of any
+MAKE = {"Grown": "grown (λ text w. ", "Step": "steps (λ text T. ", "Free": "free (λ text w T. "}
 # calls that read nothing by themselves
-PLAIN = ("rewind", "enter", "leave", "skip", "peek", "second", "is", "is_among", "of", "begin", "ended", "ended_with", "join", "deeper", "type_name")
+PLAIN = ("rewind", "enter", "leave", "skip", "peek", "second", "is", "is_binary_op", "of", "begin", "ended", "ended_with", "join", "deeper", "type_name")
 # a reader that begins so does nothing where nothing is being read
 # a test by a call, or by one that is denied: the law for what it tells where it holds and where it does not
 TELLS = {"eq": ("same", "not_same"), "ne": ("differs", "no_other"), "is": ("of_kind", "not_of_kind")}
@@ -178,7 +176,7 @@ def shape(fn, recipe):
         r.setdefault("round", run(start, test))
         # the returns from the loop on
         on = lambda n: "returns" if n + body[:start].count("return ") == 1 else f"returns-{n + body[:start].count('return ')}"
-        look = re.search(r"let k = p\.peek\((?:source\.)?tokens\);\n\s+if (!?)k\.is\(", body[start:test])
+        look = re.search(r"let k = p\.peek\(source\);\n\s+if (!?)k\.is\(", body[start:test])
         n = 2 if look else 1
         if kind == "many" and "&" not in fn.grammar:
             if look: r.setdefault(on(1), "rounds_miss LOOP =peek (OUT, tt) tt" if look.group(1) else "rounds_before LOOP =peek OUT tt")
@@ -254,14 +252,13 @@ class Reader:
 
     def info(self, step): return FNS.get(re.sub(r"\d+$", "", step))
     def inside(self): return "at" in self.fn.params
-    def kept_on(self): return "loop.on" if self.fn.relation in TEXTED else "(loop []).on"
 
     def chain(self, known):
         """how far on the cursor is, by the calls made: a term, and whether a token was taken"""
         out, far = [], False
         for k in reversed(known):
             f = self.info(k)
-            if k == "loop": out.append(self.kept_on())
+            if k == "loop": out.append("loop.on")
             elif f and f.name == "operator": out.append(f"on_operator c.args.n {k}"); far = True
             elif f and f.name == "enter": out.append(f"at_in {k}")
             elif f and f.name == "begin": out.append(f"at_begin {k}")
@@ -280,25 +277,24 @@ class Reader:
         test = next((k for k in reversed(names[:names.index("loop")]) if k in tests), None) if "loop" in names else None
         if term is None and callee:
             ch, far = self.chain(names)
-            start = f"(was {self.kept_on()} {test})" if test and not self.idle else "refl" if self.inside() else "if1"
+            start = f"(was loop.on {test})" if test and not self.idle else "refl" if self.inside() else "if1"
             if callee.endswith("_at"): ch = "at_rule if1"
             term = f"({'further' if far else 'lower'} {self.ranks[callee]} {self.ranks[self.fn.name]} DECREASES {start} ({ch}) {'tt ' if far else ''}(omega arith), tt)"
         elif term is None and goal == "returns" and self.idle and self.fn.relation == "Ends": term = "ends_by refl (idle if1) ended_with"
         elif term is None and "round" in self.recipe:
             if goal.startswith("loop-smaller"): term = f"further 0 0 refl TEST ({self.chain(names[:names.index('loop')])[0]}) tt (omega arith)"
-            elif goal == "loop-preserved": term = self.held("rounds_next LOOP ROUND OUT KEPT")
+            elif goal == "loop-preserved": term = "rounds_next LOOP ROUND OUT KEPT"
         if term is None: return ""
         if goal.startswith("returns") and goal in self.recipe: term = self.own(term)
-        if goal == "loop-preserved" and "keeps" in self.recipe: term = self.held(term)
         if "round" in self.recipe: term = term.replace("ROUND", "(" + self.recipe["round"] + ")")
-        term = term.replace("LOOP", "loop" if self.fn.relation in TEXTED else "(loop text)").replace("DECREASES", "c.decreases")
+        term = term.replace("LOOP", "loop").replace("DECREASES", "c.decreases")
         if test: term = term.replace("TEST", test)
         if tests: term = term.replace("OUT", tests[0]).replace("READ", tests[min(1, len(tests) - 1)])
         back = next((k for k in names if re.match(r"rewind\d*$", k)), None)
         if back: term = term.replace("BACK", back)
         if "KEPT" in term:
             kept = [f"c.{self.lts.steps[k]}.auto.nodes" for k in names[:names.index("loop")] if self.info(k) and "nodes" in self.info(k).params]
-            kept.append("loop.kept" if self.fn.relation in TEXTED else "(loop []).kept")
+            kept.append("loop.kept")
             term = term.replace("KEPTONE", kept[0]).replace("KEPT", "(" + " ∙ ".join(kept) + ")")
         wraps = not callee and not goal.startswith("loop-smaller")
         def fact(m):
@@ -311,11 +307,10 @@ class Reader:
         opens = "unfolding body\n" if re.search(r"\b(inside_by|inside_as|by_rule) ", term) else ""
         return f"\npub {self.stem}{today} : goal.{self.stem}{today}\n{opens}{self.stem}{today} {self.takes} = {bare(term)}\n"
 
-    def held(self, term): return term if self.fn.relation in TEXTED else f"λ text. {term}"
     def own(self, term):
         if term.startswith("!"): return term[1:]
         r = self.fn.relation
-        return f"{MAKE[r]} ({OWN[r]}{term})" if r in MAKE else term
+        return f"{MAKE[r]}{term})" if r in MAKE else term
 
     def answers(self): return "".join(self.answer(g) for g in self.lts.goals)
 
@@ -327,12 +322,11 @@ class Reader:
             tokens = "l.source.now.tokens.now" if "source" in self.fn.params else "l.tokens.now"
             out += f"\nabbrev pub decreases-{self.fn.name} : goal.decreases-{self.fn.name}\ndecreases-{self.fn.name} l = size {tokens} {cursor} {self.ranks[self.fn.name]}\n"
         for loop, variables in self.lts.loops.items():
-            free = self.fn.relation not in TEXTED
             def value(m):
                 v = m.group(0).rstrip("₀")
                 if v in ("text", "tokens") and "source" in variables: return f"l.source.{v}.now"
                 return m.group(0) if v not in variables else f"l.initial.{v}" if v != m.group(0) else f"l.{v}"
-            keeps = self.recipe.get("invariant") or f"{'(text : List ℕ) → ' if free else ''}{self.recipe.get('keeps', 'Looping')} text tokens ({self.recipe['of']}) p₀ nodes₀ p nodes"
+            keeps = self.recipe.get("invariant") or f"{self.recipe.get('keeps', 'Looping')} text tokens ({self.recipe['of']}) p₀ nodes₀ p nodes"
             measure = self.recipe.get("measure", "size tokens p 0")
             for kind, term in (("invariant", keeps), ("decreases", measure)):
                 name = f"{kind}-{self.stem}{loop}"

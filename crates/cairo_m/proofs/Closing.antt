@@ -7,8 +7,8 @@ use native.Mathlib.Decide.{dec_lt}
 use lib.ListN.{length, replicate}
 use borrow.Author.Tests.{lt-ltb, le-ltb}
 use Rattle.std.specs.Prelude.{Result, Ok, Err}
-use Rattle.tables.specs.Tables.{Token, Node, Diagnostic, encode_diagnostic, stored, tokens_of as tokens_in, cleared, laid, table}
-use Rattle.tables.proofs.Laws.{diagnostic_size, tokens_at, laid_none, laid_more, table_none, cleared_all, tokens_length}
+use Rattle.tables.specs.Tables.{Token, Node, Diagnostic, encode_diagnostic, stored, tokens_of as tokens_in, laid, table}
+use Rattle.tables.proofs.Laws.{diagnostic_size, tokens_at, laid_none, laid_more, table_none, tokens_length}
 use Rattle.grammar.specs.Grammar.{Tree, Deep, Stops}
 use Rattle.tables.specs.Suffix.{unknown_numerals}
 use Rattle.grammar.proofs.Suffix.{unknown_suffixes}
@@ -18,7 +18,7 @@ use Rattle.parser.specs.declared.ParseError.{ParseError}
 use Rattle.cairo_m.specs.declared.Refusal.{Refusal}
 use Rattle.cairo_m.specs.Reading.{input, nest, suffix, node_room, accepted, is_nest, is_suffix, is_node_room, is_accepted, suffix_error}
 use Rattle.cairo_m.specs.Reading as R
-use Rattle.cairo_m.specs.Suffixes.{stop_of, Unknown, TokensRead}
+use Rattle.cairo_m.specs.Suffixes.{stop_of, TokensRead}
 
 -- what `parse` answered, read back
 data Seen (text w : List ℕ) (m : ℕ) (U : List ℕ) : Result ℕ ParseError → Type 0 where
@@ -68,21 +68,21 @@ module _ {text w : List ℕ} {m : ℕ} {U C : List ℕ} where
 -- a tree of k nodes; n numerals have an unknown suffix
 module _ {text w : List ℕ} {m : ℕ} {U : List ℕ} {k n : ℕ} (v : ParsedIs text w m U (Ok k)) (z : n ≡ length (unknown_numerals (tokens_in w))) where
   -- no node is left
-  cleared_nodes : {Y : List ℕ} → Y ≡ cleared 0 U → length U ≡ m → Y ≡ table 16 entry_of m []
-  cleared_nodes e l = e ∙ cleared_all U ∙ ap (λ (n : ℕ). replicate n 0) l ∙ sym (table_none entry_of 16 m)
+  cleared_nodes : {Y : List ℕ} → Y ≡ replicate (length U) 0 → length U ≡ m → Y ≡ table 16 entry_of m []
+  cleared_nodes e l = e ∙ ap (λ (n : ℕ). replicate n 0) l ∙ sym (table_none entry_of 16 m)
 
-  pub closes_suffix : 0 < n → {Y : List ℕ} → Y ≡ cleared 0 U → length U ≡ m → {u : ℕ} {C c : List ℕ} → Unknown w C c u → TokensRead text w m Y C c (Err (Refusal.Suffix u))
-  closes_suffix h {Y} f l {u} {C} {c} q = go (seen v) (unknown_numerals (tokens_in w)) refl
+  pub closes_suffix : 0 < n → {Y : List ℕ} → Y ≡ replicate (length U) 0 → length U ≡ m → {C c : List ℕ} → c ≡ laid 8 encode_diagnostic C (map suffix_error (unknown_numerals (tokens_in w))) → TokensRead text w m Y C c (Err (Refusal.Suffix n))
+  closes_suffix h {Y} f l {C} {c} q = go (seen v) (unknown_numerals (tokens_in w)) refl
     where
-      go : Seen text w m U (Ok k) → (us : List Token) → unknown_numerals (tokens_in w) ≡ us → TokensRead text w m Y C c (Err (Refusal.Suffix u))
+      go : Seen text w m U (Ok k) → (us : List Token) → unknown_numerals (tokens_in w) ≡ us → TokensRead text w m Y C c (Err (Refusal.Suffix n))
       go (seen_tree d t k-is i) [] g = absurd (omega (arith, z, ap length g))
       go (seen_tree d t k-is i) (x ∷ us) g =
           record {
             outcome = suffix (x ∷ us);
             is = is_suffix d (subst (Tree _ _) g t);
-            answer = ap (λ (n : ℕ). Err (Refusal.Suffix n)) (q.count ∙ ap length g);
+            answer = ap (λ (n : ℕ). Err (Refusal.Suffix n)) (z ∙ ap length g);
             nodes = cleared_nodes f l;
-            diagnostics = q.listed ∙ ap (λ (y : List Token). laid 8 encode_diagnostic C (map suffix_error y)) g;
+            diagnostics = q ∙ ap (λ (y : List Token). laid 8 encode_diagnostic C (map suffix_error y)) g;
           }
 
   -- none has, and all nodes are counted
@@ -101,7 +101,7 @@ module _ {text w : List ℕ} {m : ℕ} {U : List ℕ} {k n : ℕ} (v : ParsedIs 
           record { ns = ns; shallow = d; tree_is = subst (Tree _ _) g t; count = omega (arith, k-is, few t, tokens_length w); nodes = i }
       go (seen_tree d t k-is i) (x ∷ us) g = absurd (omega (arith, z, ap length g))
 
-  pub closes_room : n ≤ 0 → length w < 0x1_0000_0000_0000_0000 → {r : ℕ} → r ≡ length U / 16 → r < k → {Y : List ℕ} → Y ≡ cleared 0 U → length U ≡ m → {C : List ℕ} → TokensRead text w m Y C C (Err (Refusal.NodeRoom k))
+  pub closes_room : n ≤ 0 → length w < 0x1_0000_0000_0000_0000 → {r : ℕ} → r ≡ length U / 16 → r < k → {Y : List ℕ} → Y ≡ replicate (length U) 0 → length U ≡ m → {C : List ℕ} → TokensRead text w m Y C C (Err (Refusal.NodeRoom k))
   closes_room h b f g n l =
       let y = plain h b in
       record {

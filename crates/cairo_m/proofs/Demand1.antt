@@ -8,15 +8,17 @@ use lib.ListN.{replicate}
 use Rattle.std.specs.Prelude.{Ok, Err, is_err}
 use Rattle.tables.specs.Tables.{encode_token, encode_node, token_table, node_table}
 use Rattle.tables.proofs.Laws.{table_none}
+use Rattle.lexer.specs.declared.lexing.TextError.{TextError}
+use Rattle.lexer.specs.declared.entry.LexError.{LexError}
 use Rattle.cairo_m.specs.declared.Refusal.{Refusal}
 use Rattle.cairo_m.specs.Reading.{Outcome, accepted, long, encoding, lexical, token_room, nest, syntax, suffix, node_room, Reading, reading_of, tokens_of, nodes_of, ReadingIs, outcome_of}
 
 pub numbered : (r : Reading) → outcome_of r ≤ 8
 numbered (Ok a) = omega arith
-numbered (Err Refusal.Long) = omega arith
-numbered (Err Refusal.Encoding) = omega arith
-numbered (Err (Refusal.Lexical d)) = omega arith
-numbered (Err (Refusal.TokenRoom t)) = omega arith
+numbered (Err (Refusal.Lexing (LexError.Text TextError.Long))) = omega arith
+numbered (Err (Refusal.Lexing (LexError.Text TextError.Encoding))) = omega arith
+numbered (Err (Refusal.Lexing (LexError.Lexical d))) = omega arith
+numbered (Err (Refusal.Lexing (LexError.TokenRoom t))) = omega arith
 numbered (Err Refusal.Nest) = omega arith
 numbered (Err (Refusal.NodeRoom n)) = omega arith
 numbered (Err Refusal.Syntax) = omega arith

@@ -16,7 +16,7 @@ use Rattle.tables.specs.Tables.{Token, Diagnostic}
 use Rattle.tables.specs.TokenKinds.{IDENT}
 use Rattle.utf8.specs.Utf8.{Utf8, Rest}
 use Rattle.utf8.specs.Utf8 as utf8
-use Rattle.numeral.specs.Numeral.{base_of, digit_of, digit_in, last_below, last_of, cut_at, cut_by, cut_of, suffix_kind, reading, read_to, rest_of, numeral_of}
+use Rattle.numeral.specs.Numeral.{base_in, digit_of, digit_in, last_below, last_of, cut_at, cut_by, cut_of, suffix_kind, reading, read_to, rest_of, numeral_of}
 use Rattle.lexer.specs.Kinds.{texts, fixed_of}
 use Rattle.lexer.specs.Classes.{kind_from, next_from, next_of, pair_of, class_of, KindIs, kind, no_kind}
 use Rattle.lexer.specs.Tokens.{Best}
@@ -183,7 +183,7 @@ stated : Row → Read
 stated (row w ts v) = read ts []
 
 computed : map found rows ≡ map stated rows
-unfolding found stated rows steps onward add sight mark longer pair keyword class_of kind_from next_of next_from pair_of texts fixed_of white letter digit word run same starts numeral_of rest_of read_to reading suffix_kind cut_of cut_by cut_at last_of last_below digit_in digit_of base_of
+unfolding found stated rows steps onward add sight mark longer pair keyword class_of kind_from next_of next_from pair_of texts fixed_of white letter digit word run same starts numeral_of rest_of read_to reading suffix_kind cut_of cut_by cut_at last_of last_below digit_in digit_of base_in
 computed = refl
 
 lexed : {s : List ℕ} {ts : List Token} {r : Read} → Sound 0 s r → r ≡ read ts [] → (Utf8 s × Lexes 0 s ts [])

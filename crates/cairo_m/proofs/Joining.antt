@@ -9,9 +9,9 @@ use lib.Dec.{ltb}
 use lib.ListN.{length, take, replicate}
 use borrow.Author.Tests.{lt-ltb, le-ltb}
 use Rattle.std.specs.Prelude.{Result, Ok, Err, is_err}
-use Rattle.tables.specs.Tables.{Token, Node, encode_token, encode_node, encode_diagnostic, tokens_of as tokens_in, cleared, laid, table, token_table, node_table, diagnostic_table}
+use Rattle.tables.specs.Tables.{Token, Node, encode_token, encode_node, encode_diagnostic, tokens_of as tokens_in, laid, table, token_table, node_table, diagnostic_table}
 use Rattle.tables.specs.Suffix.{unknown_numerals}
-use Rattle.tables.proofs.Laws.{token_size, diagnostic_size, laid_zeros, table_none, table_front, cleared_all, tokens_of_table}
+use Rattle.tables.proofs.Laws.{token_size, diagnostic_size, laid_zeros, table_none, table_front, tokens_of_table}
 use Rattle.utf8.specs.Utf8.{Utf8}
 use Rattle.lexer.specs.Lexes.{Lexes}
 use Rattle.lexer.specs.Answers.{Lexemes, lexed, ResultIs, too_long, not_utf8, lexes, answer_of, tokens_after, diagnostics_of as errorsIn, AnswerIs}
@@ -23,7 +23,7 @@ use Rattle.parser.specs.Parse.{entry_of}
 use Rattle.parser.proofs.Uncapped.{uncapped}
 use Rattle.cairo_m.specs.declared.Refusal.{Refusal}
 use Rattle.cairo_m.specs.Reading.{input, Outcome, accepted, lexical, token_room, TokensAre, is_nest, is_syntax, is_suffix, is_node_room, is_accepted}
-use Rattle.cairo_m.specs.Reading.{OutcomeIs, is_long, is_encoding, is_lexical, is_token_room, is_lexed, Reading, reading_of, tokens_of, nodes_of, diagnostics_of, ReadingIs, refusal_of}
+use Rattle.cairo_m.specs.Reading.{OutcomeIs, is_long, is_encoding, is_lexical, is_token_room, is_lexed, Reading, reading_of, tokens_of, nodes_of, diagnostics_of, ReadingIs}
 use Rattle.cairo_m.specs.Reading as R
 use Rattle.cairo_m.specs.Suffixes.{TokensRead}
 use Rattle.cairo_m.proofs.Lexed.{ordered, fits, values}
@@ -43,7 +43,7 @@ pub record Taken (text : List ℕ) (k n : ℕ) (a c : List ℕ) (t u : ℕ) : Ty
   pub diagnostics : c ≡ diagnostic_table n []
 
 data Joined (text : List ℕ) (k n : ℕ) (a c : List ℕ) : Result LexedAlone LexError → Type 0 where
-  refused : {e : LexError} → (o : Outcome) → ((m : ℕ) → OutcomeIs text (k / 16) m o) → Err (refusal_of e) ≡ reading_of o → a ≡ replicate k 0 → c ≡ diagnostic_table n (diagnostics_of o) → Joined text k n a c (Err e)
+  refused : {e : LexError} → (o : Outcome) → ((m : ℕ) → OutcomeIs text (k / 16) m o) → Err (Refusal.Lexing e) ≡ reading_of o → a ≡ replicate k 0 → c ≡ diagnostic_table n (diagnostics_of o) → Joined text k n a c (Err e)
   taken : {l : LexedAlone} → Taken text k n a c l.tokens l.unknown → Joined text k n a c (Ok l)
 
 joined : {text : List ℕ} {k n : ℕ} {a c : List ℕ} {r : Result LexedAlone LexError} → AnswerIs text k n a c r → Joined text k n a c r
@@ -67,7 +67,7 @@ joined {text} {k} {n} {a} {c} v =
 
 module _ {text : List ℕ} {k n : ℕ} {a c : List ℕ} where
   -- no node is left
-  pub refuses : {e : LexError} {r : Refusal} → AnswerIs text k n a c (Err e) → r ≡ refusal_of e → {m : ℕ} (B : List ℕ) {Y : List ℕ} → Y ≡ cleared 0 B → length B ≡ m → ReadingIs text k m n a Y c (Err r)
+  pub refuses : {e : LexError} {r : Refusal} → AnswerIs text k n a c (Err e) → r ≡ Refusal.Lexing e → {m : ℕ} (B : List ℕ) {Y : List ℕ} → Y ≡ replicate (length B) 0 → length B ≡ m → ReadingIs text k m n a Y c (Err r)
   refuses {e} {r} v f {m} B {Y} y l = go (joined v)
     where
       go : Joined text k n a c (Err e) → ReadingIs text k m n a Y c (Err r)
@@ -78,7 +78,7 @@ module _ {text : List ℕ} {k n : ℕ} {a c : List ℕ} where
             is = i (m / 16);
             answer = ap Err f ∙ z;
             tokens = w ∙ sym (rw none.0 (table_none encode_token 16 k));
-            nodes = y ∙ cleared_all B ∙ ap (λ (j : ℕ). replicate j 0) l ∙ sym (rw none.1 (table_none encode_node 16 m));
+            nodes = y ∙ ap (λ (j : ℕ). replicate j 0) l ∙ sym (rw none.1 (table_none encode_node 16 m));
             diagnostics = x;
           }
 
@@ -140,6 +140,6 @@ module _ {text : List ℕ} {k m n t u : ℕ} {a b w C c : List ℕ} {r : Reading
       go o (whole t) z = refl
       go o (nothing f) z = absurd (false≢true (sym z ∙ f))
 
-  pub reads_refused : is_err r ≡ true → {A : List ℕ} → A ≡ cleared 0 a → length a ≡ k → ReadingIs text k m n A b c r
+  pub reads_refused : is_err r ≡ true → {A : List ℕ} → A ≡ replicate (length a) 0 → length a ≡ k → ReadingIs text k m n A b c r
   reads_refused h f l =
-      closes (f ∙ cleared_all a ∙ ap (λ (j : ℕ). replicate j 0) l ∙ sym (rw (none_out v.outcome (ap is_err (sym v.answer) ∙ h)).0 (table_none encode_token 16 k)))
+      closes (f ∙ ap (λ (j : ℕ). replicate j 0) l ∙ sym (rw (none_out v.outcome (ap is_err (sym v.answer) ∙ h)).0 (table_none encode_token 16 k)))

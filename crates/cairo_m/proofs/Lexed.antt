@@ -15,8 +15,9 @@ use Rattle.tables.specs.TokenKinds.{NUMBER}
 use Rattle.tables.specs.Codes.{suffix_code}
 use Rattle.tables.specs.declared.entry_codes.Suffix.{Suffix}
 use Rattle.tables.proofs.Laws.{TokenFits, zero_token}
-use Rattle.numeral.specs.Numeral.{most, base_of, digit_of, digit_in, cut_of, suffix_kind, reading, read_to, rest_of, numeral_of}
+use Rattle.numeral.specs.Numeral.{most, base_code, base_in, base_of, digit_of, digit_in, cut_of, suffix_kind, reading, read_to, rest_of, numeral_of}
 use Rattle.numeral.proofs.Rests.{base_small, base_told}
+use Rattle.numeral.specs.declared.Base.{Base}
 use Rattle.numeral.specs.declared.NumberLiteral.{NumberLiteral}
 use Rattle.numeral.specs.declared.NumberParseError.{NumberParseError}
 use Rattle.lexer.specs.Tokens.{Spells, white_space, comment, numeral, name, fixed}
@@ -37,24 +38,24 @@ data Small : Result NumberLiteral NumberParseError → Type 0 where
   overflow : Small (Err NumberParseError.Overflow)
   format : Small (Err NumberParseError.InvalidFormat)
 
-reading_small : (base v : ℕ) (x : Suffix) (s : List ℕ) → v ≤ most → Small (reading base x v s)
+reading_small : (base : Base) (v : ℕ) (x : Suffix) (s : List ℕ) → v ≤ most → Small (reading base x v s)
 unfolding reading
 reading_small base v x [] h = number h
 reading_small base v x (b ∷ s) h =
-    either_way Small (digit_in base b)
-    (λ p. either_way Small (ltb most (v * base + digit_of b)) (λ q. overflow) (λ q. reading_small base (v * base + digit_of b) x s (ltb-false _ _ q)))
+    either_way Small (digit_in (base_code base) b)
+    (λ p. either_way Small (ltb most (v * base_code base + digit_of b)) (λ q. overflow) (λ q. reading_small base (v * base_code base + digit_of b) x s (ltb-false _ _ q)))
     (λ p. format)
 
-rest_small : (base : ℕ) (s : List ℕ) → Small (rest_of base s)
+rest_small : (base : Base) (s : List ℕ) → Small (rest_of base s)
 unfolding rest_of read_to
 rest_small base s =
-    let k = cut_of base s in
+    let k = cut_of (base_code base) s in
     either_way Small (eqb k 0) (λ p. format)
     (λ p. either_way Small (digit_in 10 (get_or s k 0)) (λ q. format) (λ q. reading_small base 0 (suffix_kind (drop k s)) (take k s) zero-le))
 
 numeral_small : (s : List ℕ) → Small (numeral_of s)
 unfolding numeral_of
-numeral_small s = rest_small (base_of s) (cond (eqb (base_of s) 10) s (drop 2 s))
+numeral_small s = rest_small (base_in s) (cond (eqb (base_of s) 10) s (drop 2 s))
 
 -- ---- items, over the bytes w
 data Fine (w : List ℕ) : Item → Type 0 where

@@ -3,6 +3,7 @@ use Rattle.std.specs.Prelude.{◌≡◌, List, [], ◌∷◌, map, ℕ, ◌/◌,
 use Rattle.tables.specs.Tables.{Token, Node, Diagnostic, token_table, node_table, diagnostic_table}
 use Rattle.utf8.specs.Utf8.{Utf8}
 use Rattle.lexer.specs.Lexes.{Lexes}
+use Rattle.lexer.specs.declared.lexing.TextError.{TextError}
 use Rattle.lexer.specs.declared.entry.LexError.{LexError}
 use Rattle.grammar.specs.Derive.{Input, token}
 use Rattle.grammar.specs.Grammar.{Tree, Deep, Taken, Stops}
@@ -57,10 +58,10 @@ Reading = Result Accepted Refusal
 -- the answer: how many tokens and nodes there are, how many entries would do, or how many errors
 abbrev pub reading_of : Outcome → Reading
 reading_of (accepted ts ns) = Ok (record { tokens = length ts; nodes = length ns })
-reading_of long = Err Refusal.Long
-reading_of encoding = Err Refusal.Encoding
-reading_of (lexical ds) = Err (Refusal.Lexical (length ds))
-reading_of (token_room ts) = Err (Refusal.TokenRoom (length ts))
+reading_of long = Err (Refusal.Lexing (LexError.Text TextError.Long))
+reading_of encoding = Err (Refusal.Lexing (LexError.Text TextError.Encoding))
+reading_of (lexical ds) = Err (Refusal.Lexing (LexError.Lexical (length ds)))
+reading_of (token_room ts) = Err (Refusal.Lexing (LexError.TokenRoom (length ts)))
 reading_of nest = Err Refusal.Nest
 reading_of (syntax d) = Err Refusal.Syntax
 reading_of (suffix us) = Err (Refusal.Suffix (length us))
@@ -117,20 +118,13 @@ pub record ReadingIs (text : List ℕ) (k m n : ℕ) (a b c : List ℕ) (r : Rea
 
 -- ---- the numbers of an answer
 
--- a text that lexing refuses is refused
-abbrev pub refusal_of : LexError → Refusal
-refusal_of LexError.Long = Refusal.Long
-refusal_of LexError.Encoding = Refusal.Encoding
-refusal_of (LexError.Lexical d) = Refusal.Lexical d
-refusal_of (LexError.TokenRoom t) = Refusal.TokenRoom t
-
 -- 01's number of the outcome
 abbrev pub outcome_of : Reading → ℕ
 outcome_of (Ok a) = 0
-outcome_of (Err Refusal.Long) = 1
-outcome_of (Err Refusal.Encoding) = 2
-outcome_of (Err (Refusal.Lexical d)) = 3
-outcome_of (Err (Refusal.TokenRoom t)) = 4
+outcome_of (Err (Refusal.Lexing (LexError.Text TextError.Long))) = 1
+outcome_of (Err (Refusal.Lexing (LexError.Text TextError.Encoding))) = 2
+outcome_of (Err (Refusal.Lexing (LexError.Lexical d))) = 3
+outcome_of (Err (Refusal.Lexing (LexError.TokenRoom t))) = 4
 outcome_of (Err Refusal.Nest) = 5
 outcome_of (Err (Refusal.NodeRoom n)) = 6
 outcome_of (Err Refusal.Syntax) = 7
@@ -139,10 +133,10 @@ outcome_of (Err (Refusal.Suffix d)) = 8
 -- the numbers of tokens and nodes, with 0 and, to tell how many entries would do, with 4 and 6; the full count of errors, with 3, 7 and 8
 abbrev pub counts_of : Reading → Counts
 counts_of (Ok a) = record { tokens = a.tokens; nodes = a.nodes; diagnostics = 0 }
-counts_of (Err Refusal.Long) = record { tokens = 0; nodes = 0; diagnostics = 0 }
-counts_of (Err Refusal.Encoding) = record { tokens = 0; nodes = 0; diagnostics = 0 }
-counts_of (Err (Refusal.Lexical d)) = record { tokens = 0; nodes = 0; diagnostics = d }
-counts_of (Err (Refusal.TokenRoom t)) = record { tokens = t; nodes = 0; diagnostics = 0 }
+counts_of (Err (Refusal.Lexing (LexError.Text TextError.Long))) = record { tokens = 0; nodes = 0; diagnostics = 0 }
+counts_of (Err (Refusal.Lexing (LexError.Text TextError.Encoding))) = record { tokens = 0; nodes = 0; diagnostics = 0 }
+counts_of (Err (Refusal.Lexing (LexError.Lexical d))) = record { tokens = 0; nodes = 0; diagnostics = d }
+counts_of (Err (Refusal.Lexing (LexError.TokenRoom t))) = record { tokens = t; nodes = 0; diagnostics = 0 }
 counts_of (Err Refusal.Nest) = record { tokens = 0; nodes = 0; diagnostics = 0 }
 counts_of (Err (Refusal.NodeRoom n)) = record { tokens = 0; nodes = n; diagnostics = 0 }
 counts_of (Err Refusal.Syntax) = record { tokens = 0; nodes = 0; diagnostics = 1 }

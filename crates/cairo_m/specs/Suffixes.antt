@@ -1,18 +1,12 @@
 -- Contracts of private functions, from a text's tokens on, before it is known that the lexer made them. Assumes nothing.
-use Rattle.std.specs.Prelude.{◌≡◌, cond, List, map, ℕ, ◌/◌, nat_lt, length}
+use Rattle.std.specs.Prelude.{◌≡◌, cond, List, ℕ, ◌/◌, nat_lt, length}
 use Rattle.tables.specs.Tables.{Diagnostic, encode_diagnostic, tokens_of as tokens_in, token_at, table, laid}
-use Rattle.tables.specs.Suffix.{unknown_numerals}
 use Rattle.parser.specs.Parse.{entry_of}
-use Rattle.cairo_m.specs.Reading.{Outcome, TokensAre, Reading, reading_of, nodes_of, diagnostics_of, suffix_error}
+use Rattle.cairo_m.specs.Reading.{Outcome, TokensAre, Reading, reading_of, nodes_of, diagnostics_of}
 
 -- the stop at token i of the table w, or where the text ends, if there is none
 abbrev pub stop_of : List ℕ → (i end : ℕ) → Diagnostic
 stop_of w i end = cond (nat_lt i (length w / 16)) (record { start = (token_at w i).start; end = (token_at w i).end; reason = 5 }) (record { start = end; end = end; reason = 5 })
-
--- the errors of all numerals with an unknown suffix are laid over the table T, and there are r
-pub record Unknown (w T U : List ℕ) (r : ℕ) : Type 0 where
-  pub count : r ≡ length (unknown_numerals (tokens_in w))
-  pub listed : U ≡ laid 8 encode_diagnostic T (map suffix_error (unknown_numerals (tokens_in w)))
 
 -- the answer r to the tokens of the table w, with b in the node table of m bytes, and c in the diagnostic table, which was C
 pub record TokensRead (text w : List ℕ) (m : ℕ) (b C c : List ℕ) (r : Reading) : Type 0 where

@@ -4,11 +4,12 @@
 mod suffixes;
 
 ghost use Rattle.std.specs.Prelude.{◌≡◌, length};
-ghost use Rattle.cairo_m.specs.Reading.{refusal_of, outcome_of, counts_of, ReadingIs};
+ghost use Rattle.cairo_m.specs.Reading.{outcome_of, counts_of, ReadingIs};
+ghost use Rattle.cairo_m.specs.declared.Refusal.TheVariants.{Lexing};
 
 use crate::suffixes::read_tokens;
-use lexer::{LexError, lex_alone};
-use tables::clear_from;
+use lexer::{LexError, TextError, lex_alone};
+use tables::{Entry, Token};
 
 // How many tokens and nodes a text has that is read.
 #[derive(Clone, Copy)]
@@ -20,10 +21,7 @@ pub struct Accepted {
 // Why a text is refused, with how many errors there are, or entries that would do.
 #[derive(Clone, Copy)]
 pub enum Refusal {
-    Long,
-    Encoding,
-    Lexical(usize),
-    TokenRoom(usize),
+    Lexing(LexError),
     Nest,
     NodeRoom(usize),
     Syntax,
@@ -31,15 +29,10 @@ pub enum Refusal {
 }
 
 impl From<LexError> for Refusal {
-    ghost from_gives = { λ e r. r ≡ refusal_of e };
+    ghost from_gives = { λ e r. r ≡ Lexing e };
 
     fn from(e: LexError) -> Refusal {
-        match e {
-            LexError::Long => Refusal::Long,
-            LexError::Encoding => Refusal::Encoding,
-            LexError::Lexical(count) => Refusal::Lexical(count),
-            LexError::TokenRoom(count) => Refusal::TokenRoom(count),
-        }
+        Refusal::Lexing(e)
     }
 }
 
@@ -51,16 +44,16 @@ pub struct Counts {
     pub diagnostics: usize,
 }
 
-// The outcome's number.
+// 01's numbers, what C is given.
 pub fn outcome_of(r: Result<Accepted, Refusal>) -> u32
     ensures { result ≡ outcome_of r }
 {
     match r {
         Ok(_) => 0,
-        Err(Refusal::Long) => 1,
-        Err(Refusal::Encoding) => 2,
-        Err(Refusal::Lexical(_)) => 3,
-        Err(Refusal::TokenRoom(_)) => 4,
+        Err(Refusal::Lexing(LexError::Text(TextError::Long))) => 1,
+        Err(Refusal::Lexing(LexError::Text(TextError::Encoding))) => 2,
+        Err(Refusal::Lexing(LexError::Lexical(_))) => 3,
+        Err(Refusal::Lexing(LexError::TokenRoom(_))) => 4,
         Err(Refusal::Nest) => 5,
         Err(Refusal::NodeRoom(_)) => 6,
         Err(Refusal::Syntax) => 7,
@@ -72,29 +65,25 @@ pub fn outcome_of(r: Result<Accepted, Refusal>) -> u32
 pub fn counts_of(r: Result<Accepted, Refusal>) -> Counts
     ensures { result ≡ counts_of r }
 {
+    let none = Counts::default();
     match r {
         Ok(Accepted { tokens, nodes }) => Counts {
             tokens,
             nodes,
-            ..Counts::default()
+            ..none
         },
-        Err(Refusal::TokenRoom(tokens)) => Counts {
-            tokens,
-            ..Counts::default()
-        },
-        Err(Refusal::NodeRoom(nodes)) => Counts {
-            nodes,
-            ..Counts::default()
-        },
-        Err(Refusal::Lexical(diagnostics) | Refusal::Suffix(diagnostics)) => Counts {
-            diagnostics,
-            ..Counts::default()
-        },
+        Err(Refusal::Lexing(LexError::TokenRoom(tokens))) => Counts { tokens, ..none },
+        Err(Refusal::NodeRoom(nodes)) => Counts { nodes, ..none },
+        Err(Refusal::Lexing(LexError::Lexical(diagnostics)) | Refusal::Suffix(diagnostics)) =>
+            Counts {
+                diagnostics,
+                ..none
+            },
         Err(Refusal::Syntax) => Counts {
             diagnostics: 1,
-            ..Counts::default()
+            ..none
         },
-        Err(Refusal::Long | Refusal::Encoding | Refusal::Nest) => Counts::default(),
+        Err(Refusal::Lexing(LexError::Text(_)) | Refusal::Nest) => none,
     }
 }
 
@@ -107,17 +96,18 @@ pub fn read(
 ) -> Result<Accepted, Refusal>
     ensures { ReadingIs text.now (length tokens.old) (length nodes.old) (length diagnostics.old) tokens.new nodes.new diagnostics.new result }
 {
+    // Tried: `inspect_err(|_| nodes.fill(0))?`. No proof closed: what the closure leaves in `nodes` is not known after it.
     match lex_alone(text, tokens, diagnostics) {
         Ok(lexed) => {
-            let end = lexed.tokens * 16;
-            let answer = read_tokens(text, &tokens[..end], lexed.unknown, nodes, diagnostics);
+            let lexemes = &tokens[..lexed.tokens * Token::SIZE];
+            let answer = read_tokens(text, lexemes, lexed.unknown, nodes, diagnostics);
             if answer.is_err() {
-                clear_from(tokens, 0);
+                tokens.fill(0);
             }
             answer
         }
         Err(e) => {
-            clear_from(nodes, 0);
+            nodes.fill(0);
             Err(e.into())
         }
     }

@@ -1,19 +1,21 @@
 // From the tokens on: the tree, the place where reading stopped, the literals with an unknown suffix, the room for the nodes.
-ghost use Rattle.std.specs.Prelude.{◌≡◌, ◌≤◌, length};
-ghost use Rattle.tables.specs.Tables.{encode_diagnostic, stored, tokens_of as tokens_in};
+ghost use Rattle.std.specs.Prelude.{◌≡◌, ◌≤◌, length, map};
+ghost use Rattle.tables.specs.Tables.{encode_diagnostic, stored, laid, tokens_of as tokens_in};
 ghost use Rattle.tables.specs.Suffix.{unknown_suffix, unknown_numerals};
-ghost use Rattle.cairo_m.specs.Suffixes.{stop_of, Unknown, TokensRead};
+ghost use Rattle.cairo_m.specs.Reading.{suffix_error};
+ghost use Rattle.cairo_m.specs.Suffixes.{stop_of, TokensRead};
 
 use crate::{Accepted, Refusal};
 use parser::{ParseError, parse};
 use tables::entry_codes::{Reason, Suffix};
 use tables::token_type::TokenType;
-use tables::{Diagnostic, Entry, Node, Token, clear_from};
+use tables::{Diagnostic, Entry, Node, Token};
 
 // Lists where reading stopped: at this token, or where the text ends if there is none.
 fn stop(tokens: &[u8], at: usize, text_end: u16, diagnostics: &mut [u8])
     ensures { diagnostics.new ≡ stored 8 diagnostics.old 0 (encode_diagnostic (stop_of tokens.now at text_end)) }
 {
+    // Past the last token an entry is all zero, which says nothing of the end: so there is a test.
     let (start, end) = if at < Token::room(tokens) {
         let token = Token::at(tokens, at);
         (token.start, token.end)
@@ -29,30 +31,24 @@ fn stop(tokens: &[u8], at: usize, text_end: u16, diagnostics: &mut [u8])
 }
 
 // Whether a token is a numeral with a suffix that is neither felt nor u32.
-fn is_unknown(token: Token) -> bool
-    ensures { result ≡ unknown_suffix token }
+fn is_unknown(token: &Token) -> bool
+    ensures { result ≡ unknown_suffix token.now }
 {
     token.kind == TokenType::LiteralNumber as u8 && token.suffix == Suffix::Other as u8
 }
 
-// Lists all numerals with an unknown suffix, and counts them.
-fn unknown_suffixes(tokens: &[u8], diagnostics: &mut [u8]) -> usize
-    ensures { Unknown tokens.now diagnostics.old diagnostics.new result }
+// Lists all numerals with an unknown suffix.
+fn unknown_suffixes(tokens: &[u8], diagnostics: &mut [u8])
+    ensures { diagnostics.new ≡ laid 8 encode_diagnostic diagnostics.old (map suffix_error (unknown_numerals (tokens_in tokens.now))) }
 {
-    let mut count = 0;
-    for i in 0..Token::room(tokens) {
-        let token = Token::at(tokens, i);
-        if is_unknown(token) {
-            let error = Diagnostic {
-                start: token.start,
-                end: token.end,
-                reason: Reason::UnknownSuffix as u8,
-            };
-            error.put(diagnostics, count);
-            count += 1;
-        }
+    for (i, token) in Token::entries(tokens).filter(is_unknown).enumerate() {
+        let error = Diagnostic {
+            start: token.start,
+            end: token.end,
+            reason: Reason::UnknownSuffix as u8,
+        };
+        error.put(diagnostics, i);
     }
-    count
 }
 
 // Reads the tokens of a text, which are all that the table has, into the node table. `unknown` of them are numerals with an unknown suffix, which are looked for only if there are any.
@@ -76,11 +72,12 @@ pub(crate) fn read_tokens(
         }
     };
     if unknown > 0 {
-        clear_from(nodes, 0);
-        return Err(Refusal::Suffix(unknown_suffixes(tokens, diagnostics)));
+        nodes.fill(0);
+        unknown_suffixes(tokens, diagnostics);
+        return Err(Refusal::Suffix(unknown));
     }
     if count > Node::room(nodes) {
-        clear_from(nodes, 0);
+        nodes.fill(0);
         return Err(Refusal::NodeRoom(count));
     }
     Ok(Accepted {

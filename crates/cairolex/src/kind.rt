@@ -1,7 +1,5 @@
 // The names of the kinds.
-use std::fmt;
-
-// `TokenType`'s variants in their order, which is numbered from 1.
+// `TokenType`'s variants in their order, which is numbered from 1. A token's kind is a byte, so the enum's `Debug` would not do.
 const NAMES: [&str; 50] = [
     "LiteralNumber",
     "As",
@@ -55,13 +53,8 @@ const NAMES: [&str; 50] = [
     "Dot",
 ];
 
-// A kind's number, printed as its name.
-#[derive(Clone, Copy)]
-pub struct KindName(pub u8);
-
-impl fmt::Display for KindName {
-    fn fmt<W: fmt::Write>(&self, f: &mut fmt::Formatter<W>) -> fmt::Result {
-        let name = NAMES.get(usize::from(self.0).wrapping_sub(1));
-        f.write_str(name.copied().unwrap_or(""))
-    }
+// None for a number that is no kind.
+pub fn kind_name(kind: u8) -> Option<&'static str> {
+    let i = usize::from(kind).checked_sub(1)?;
+    NAMES.get(i).copied()
 }

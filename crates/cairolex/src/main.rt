@@ -4,69 +4,60 @@
 mod kind;
 mod rows;
 
-use case_io::fill;
+use cairo_m::{Refusal, counts_of, outcome_of};
+use case_io::{UsedEntries, with_input};
+use lexer::lex_alone;
 use rows::{DiagnosticRow, TokenRow};
+use std::fmt::Display;
 use std::io;
 use std::io::Write;
 use tables::{Diagnostic, Entry, Token};
 
 // Reads one byte more than the longest text, so that a longer one is seen to be too long.
 fn main(rt: HostRuntime) -> io::Result<()> {
-    let mut text = [0u8; 65536];
-    let n = fill(&mut rt.stdin(), &mut text)?;
-    list(&mut rt.stdout(), &text[..n])
+    with_input::<65536, _, _>(&mut rt.stdin(), |text| list(&mut rt.stdout(), text))
 }
 
-// Both tables have 1,024 entries.
+// [["Const",0,5,0,0,0],..] or {"refused":3,"diagnostics":[[0,1,1],..]}.
 fn list<W: Write>(out: &mut W, text: &[u8]) -> io::Result<()> {
-    let mut tokens = [0u8; 16384];
-    let mut diagnostics = [0u8; 8192];
-    let mut token_count: usize = 0;
-    let mut diagnostic_count: usize = 0;
-    let outcome = entries::cairo_m_lex(
-        text,
-        &mut tokens,
-        &mut diagnostics,
-        &mut token_count,
-        &mut diagnostic_count,
-    );
-    if outcome == 0 {
-        accepted(out, &tokens, token_count)
-    } else {
-        let count = diagnostic_count.min(Diagnostic::room(&diagnostics));
-        refused(out, outcome, &diagnostics, count)
+    let mut tokens = [0; 1024 * Token::SIZE];
+    let mut diagnostics = [0; 1024 * Diagnostic::SIZE];
+    match lex_alone(text, &mut tokens, &mut diagnostics) {
+        Ok(lexed) => {
+            let used = UsedEntries::<Token>::new(&tokens, lexed.tokens);
+            array(out, &used, TokenRow)?;
+        }
+        Err(error) => {
+            let refused = Err(Refusal::from(error));
+            let count = counts_of(refused).diagnostics;
+            let used = UsedEntries::<Diagnostic>::new(&diagnostics, count);
+            write!(
+                out,
+                "{{\"refused\":{},\"diagnostics\":",
+                outcome_of(refused)
+            )?;
+            array(out, &used, DiagnosticRow)?;
+            write!(out, "}}")?;
+        }
     }
+    writeln!(out)
 }
 
-// [["Const",0,5,0,0,0],..]
-fn accepted<W: Write>(out: &mut W, tokens: &[u8], count: usize) -> io::Result<()> {
-    write!(out, "[")?;
-    for i in 0..count {
-        write!(out, "{}{}", comma(i), TokenRow(Token::at(tokens, i)))?;
-    }
-    writeln!(out, "]")
-}
-
-// {"refused":3,"diagnostics":[[0,1,1],..]}
-fn refused<W: Write>(
+// The rows of the entries, in an array.
+fn array<W: Write, E: Entry, R: Display + Drop, F: Fn(E) -> R>(
     out: &mut W,
-    outcome: u32,
-    diagnostics: &[u8],
-    count: usize,
-) -> io::Result<()> {
-    write!(out, "{{\"refused\":{outcome},\"diagnostics\":[")?;
-    for i in 0..count {
-        write!(
-            out,
-            "{}{}",
-            comma(i),
-            DiagnosticRow(Diagnostic::at(diagnostics, i))
-        )?;
+    used: &UsedEntries<'_, E>,
+    row: F,
+) -> io::Result<()>
+    requires { F.IsAlwaysCallable row }
+{
+    write!(out, "[")?;
+    let mut entries = E::entries(used.bytes());
+    if let Some(entry) = entries.next() {
+        write!(out, "{}", row(entry))?;
     }
-    writeln!(out, "]}}")
-}
-
-// What stands before row i.
-fn comma(i: usize) -> &'static str {
-    if i == 0 { "" } else { "," }
+    for entry in entries {
+        write!(out, ",{}", row(entry))?;
+    }
+    write!(out, "]")
 }

@@ -1,8 +1,10 @@
 // An entry of a table as a row of JSON.
-use crate::kind::KindName;
+use crate::kind::kind_name;
+use case_io::Row;
 use std::fmt;
 use tables::{Diagnostic, Token};
 
+// The kind by its name, then the place in the text, then what a numeral says.
 #[derive(Clone, Copy)]
 pub struct TokenRow(pub Token);
 
@@ -16,7 +18,7 @@ impl fmt::Display for TokenRow {
             base,
             value,
         } = self.0;
-        let name = KindName(kind);
+        let name = kind_name(kind).unwrap_or("");
         write!(f, "[\"{name}\",{start},{end},{suffix},{value},{base}]")
     }
 }
@@ -26,7 +28,6 @@ pub struct DiagnosticRow(pub Diagnostic);
 
 impl fmt::Display for DiagnosticRow {
     fn fmt<W: fmt::Write>(&self, f: &mut fmt::Formatter<W>) -> fmt::Result {
-        let Diagnostic { start, end, reason } = self.0;
-        write!(f, "[{start},{end},{reason}]")
+        write!(f, "[{}]", Row(self.0))
     }
 }

@@ -1,48 +1,29 @@
 // Prints the tree of the Cairo-M text on standard input, or why it is refused: one line of JSON.
 #![tactic(auto)]
 
-use case_io::{fill, first, line};
-use entries::read_numbers;
-use listing::{ListError, list, list_refused};
+use cairo_m::read;
+use case_io::{line, list_answer, with_input};
+use listing::ListError;
 use std::io;
 use std::io::Write;
-use tables::{Diagnostic, Node};
+use tables::{Diagnostic, Entry, Node, Token};
 
 // Reads one byte more than the longest text, so that a longer one is seen to be too long.
 fn main(rt: HostRuntime) -> io::Result<()> {
-    let mut text = [0u8; 65536];
-    let n = fill(&mut rt.stdin(), &mut text)?;
-    answer(&mut rt.stdout(), &mut rt.stderr(), &text[..n])
+    with_input::<65536, _, _>(&mut rt.stdin(), |text| {
+        answer(&mut rt.stdout(), &mut rt.stderr(), text)
+    })
 }
 
-// Each table has 1,024 entries.
-#[tactic(auto, unfolding(listing::specs::Answers::fitted, listing::specs::Answers::listed, listing::specs::Answers::refused))]
+// The listing of 1,024 entries has less than 65,536 bytes.
 fn answer<W: Write, E: Write>(out: &mut W, err: &mut E, text: &[u8]) -> io::Result<()> {
-    let mut tokens = [0u8; 16384];
-    let mut nodes = [0u8; 16384];
-    let mut diagnostics = [0u8; 8192];
-    let mut token_count: usize = 0;
-    let mut node_count: usize = 0;
-    let mut diagnostic_count: usize = 0;
-    let outcome = read_numbers(
-        text,
-        &mut tokens,
-        &mut nodes,
-        &mut diagnostics,
-        &mut token_count,
-        &mut node_count,
-        &mut diagnostic_count,
-    );
-    // The listing of 1,024 entries has less than 65,536 bytes.
-    let mut listing = [0u8; 65536];
-    let listed = if outcome == 0 {
-        list(first::<Node>(&nodes, node_count), &mut listing)
-    } else {
-        let stored = first::<Diagnostic>(&diagnostics, diagnostic_count);
-        list_refused(outcome, stored, &mut listing)
-    };
-    match listed {
-        Ok(n) => line(out, &listing[..n]),
+    let mut tokens = [0; 1024 * Token::SIZE];
+    let mut nodes = [0; 1024 * Node::SIZE];
+    let mut diagnostics = [0; 1024 * Diagnostic::SIZE];
+    let mut listing = [0; 65536];
+    let answer = read(text, &mut tokens, &mut nodes, &mut diagnostics);
+    match list_answer(answer, &nodes, &diagnostics, &mut listing) {
+        Ok(text) => line(out, text),
         Err(ListError::Kind) => writeln!(err, "cairolist: a node of no kind"),
         Err(ListError::Room) => writeln!(err, "cairolist: no room for the listing"),
     }

@@ -2,6 +2,8 @@
 ghost use Rattle.std.specs.Prelude.{◌≡◌, ◌≤◌, ◌<◌, ◌+◌, ◌==◌, IfSome, OnSome, IfNone, take, drop, length, [], ◌∷◌};
 ghost use Rattle.std.specs.List.{position_or_len, before_first, after_first};
 
+use std::str::FromStr;
+
 // The bytes that are left to read.
 #[derive(Clone, Copy)]
 pub struct Cases<'a> {
@@ -23,19 +25,24 @@ impl<'a> Cases<'a> {
         self.bytes(line_end(all))
     }
 
-    // The decimal number that comes next; the byte that ends it is passed.
-    pub fn number(&mut self) -> usize
+    // The decimal number that comes next, 0 where it is too large; the byte that ends it is passed.
+    pub fn number<N: FromStr + Default>(&mut self) -> N
+    where
+        N::Err: Drop,
         ensures never_back { length self.new.rest.now ≤ length self.old.rest.now }
         ensures further { 0 < length self.old.rest.now → length self.new.rest.now < length self.old.rest.now }
     {
-        let mut value = 0;
-        while let Some(b) = self.rest.split_off_first() {
-            match b {
-                b'0'..=b'9' => value = with_digit(value, b - b'0'),
-                _ => break,
-            }
-        }
-        value
+        let all = self.rest;
+        let end = all
+            .iter()
+            .position(|b| !b.is_ascii_digit())
+            .unwrap_or(all.len());
+        let (digits, rest) = all.split_at(end);
+        self.rest = rest.get(1..).unwrap_or(&[]);
+        str::from_utf8(digits)
+            .ok()
+            .and_then(|text| text.parse().ok())
+            .unwrap_or_default()
     }
 
     // The next n bytes, and the byte after them is passed.
@@ -51,7 +58,7 @@ impl<'a> Cases<'a> {
     }
 }
 
-// The place of the first line feed, or the end.
+// The place of the first line feed, or the end. `number` looks for its end in the same way: one function for both would take a closure, and be no shorter.
 fn line_end(bytes: &[u8]) -> usize
     ensures within { result ≤ length bytes.now }
     ensures first { result ≡ position_or_len (λ b. b == 10) bytes.now }
@@ -60,12 +67,4 @@ fn line_end(bytes: &[u8]) -> usize
         .iter()
         .position(|b| *b == b'\n')
         .unwrap_or(bytes.len())
-}
-
-// One digit more, as long as the number fits.
-fn with_digit(value: usize, digit: u8) -> usize {
-    value
-        .checked_mul(10)
-        .and_then(|tens| tens.checked_add(digit as usize))
-        .unwrap_or(value)
 }

@@ -2,18 +2,22 @@
 // The contracts say what keeps a caller safe. What is read and written is held to the case files.
 #![tactic(auto)]
 
+mod answering;
 mod cases;
+mod listed;
 mod rows;
+mod used;
 
-ghost use Rattle.std.specs.Prelude.{◌≡◌, ◌≤◌, ◌<◌, ◌∷◌, [], ◌++◌, ◌*◌, ◌/◌, min, length, take, replicate, IfOk, OnOk};
+ghost use Rattle.std.specs.Prelude.{◌≡◌, ◌≤◌, ◌<◌, ◌∷◌, [], ◌++◌, length, take, replicate, IfOk, OnOk};
 ghost use Rattle.std.specs.Io.KnownBytes.{Appends, Consumes, IsAtEnd};
 
+pub use answering::{Case, answer_all, with_input};
 pub use cases::Cases;
-pub use rows::TokenRow;
+pub use listed::list_answer;
+pub use rows::{Row, Spelled};
 use std::io;
 use std::io::{Read, Write};
-use std::ops::Range;
-use tables::Entry;
+pub use used::UsedEntries;
 
 // Zeros. They are made here, since where they are written out a proof counts them one by one.
 pub fn room<const N: usize>() -> [u8; N]
@@ -46,26 +50,4 @@ pub fn line<W: Write>(out: &mut W, text: &[u8]) -> io::Result<()>
 {
     out.write_all(text)?;
     out.write_all(b"\n")
-}
-
-// The bytes of a table's first entries, so many or as many as there are.
-pub fn first<E: Entry>(table: &[u8], count: usize) -> &[u8]
-    ensures { result.now ≡ take (min count (length table.now / E.SIZE) * E.SIZE) table.now }
-{
-    &table[..count.min(E::room(table)) * E::SIZE]
-}
-
-// How many bytes of a table are not zero though they are in no field of a used entry. Entries have `size` bytes, and no field
-// has those in the gap.
-pub fn stray(table: &[u8], used: usize, size: usize, gap: Range<usize>) -> usize
-    ensures { result ≤ length table.now }
-{
-    if size == 0 {
-        return 0;
-    }
-    table
-        .iter()
-        .enumerate()
-        .filter(|&(i, b)| *b != 0 && (i / size >= used || gap.contains(&(i % size))))
-        .count()
 }

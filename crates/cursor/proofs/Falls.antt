@@ -13,11 +13,12 @@ use Rattle.grammar.proofs.On.{on_of}
 use Rattle.grammar.proofs.Progress.{eats, sane?, grows}
 use Rattle.grammar.proofs.Whole.{solid, takes_one}
 use Rattle.cursor.specs.Entries.{input}
-use Rattle.cursor.specs.Read.{READING, FAILED, DEEP, Represents, Result, matched, failed, exceeded, Reads, still, reads, Puts, puts, Grown, grown, Step, steps, Free, free, begun}
+use Rattle.cursor.specs.Read.{Represents, Result, matched, failed, exceeded, Reads, still, reads, Grown, grown, Step, steps, Free, free, begun}
 use Rattle.cursor.specs.Steps.{with_furthest, fresh_at}
 use Rattle.cursor.specs.declared.Cursor.{Cursor}
 use Rattle.cursor.specs.declared.Status.{Status}
 use Rattle.cursor.proofs.Laws.{clash, reading?, some}
+use Rattle.cursor.specs.declared.Status.TheVariants.{Reading, Failed, Deep}
 
 infixl 40 ◌and_on◌
 -- the tokens left
@@ -33,7 +34,7 @@ true_false e = omega (arith, ap one_if e)
 
 -- where q is reading, so was p, and q is not before it; if e, it is past a token
 pub data Ahead (e : Bool) (w : List ℕ) (p q : Cursor) : Type 0 where
-  ahead : (q.status ≡ READING → (p.status ≡ READING) × (ahead_of w q + one_if e ≤ ahead_of w p)) → Ahead e w p q
+  ahead : (q.status ≡ Reading → (p.status ≡ Reading) × (ahead_of w q + one_if e ≤ ahead_of w p)) → Ahead e w p q
 
 -- a number, or 0 where nothing is being read
 abbrev pub if_reading : Status → ℕ → ℕ
@@ -41,7 +42,7 @@ if_reading Status.Reading n = n
 if_reading Status.Failed n = 0
 if_reading Status.Deep n = 0
 
-not_reading : (s : Status) (n : ℕ) → (s ≡ READING → ⊥) → if_reading s n ≡ 0
+not_reading : (s : Status) (n : ℕ) → (s ≡ Reading → ⊥) → if_reading s n ≡ 0
 not_reading Status.Reading n h = absurd (h refl)
 not_reading Status.Failed n h = refl
 not_reading Status.Deep n h = refl
@@ -66,13 +67,10 @@ pub on : {text w : List ℕ} {g : G} {p q : Cursor} {T U : List ℕ} → Reads g
 on (still h e i f) = ahead (λ z. absurd (h (sym e ∙ z)))
 on {text} {w} {g} {p} {q} {T} {U} (reads z l) = ahead (λ z'. let (s, v) = some p in (z, go v (l s v) z'))
   where
-    go : {s : S} → Represents p s → Result g text w p s T q U → q.status ≡ READING → ahead_of w q + one_if (takes? g) ≤ ahead_of w p
+    go : {s : S} → Represents p s → Result g text w p s T q U → q.status ≡ Reading → ahead_of w q + one_if (takes? g) ≤ ahead_of w p
     go v (matched t z n u c f) z' = further_on text w g (eats solid g) (sane? solid g) refl refl v u c.derived
-    go v (failed z c f) z' = clash FAILED READING z z' (omega arith)
-    go v (exceeded z c) z' = clash DEEP READING z z' (omega arith)
-
-pub on_put : {g : G} {w : List ℕ} {p q : Cursor} {T U : List ℕ} → Puts g w p T q U → Ahead (takes? g) w p q
-on_put (puts y) = on (y [])
+    go v (failed z c f) z' = clash Failed Reading z z' (omega arith)
+    go v (exceeded z c) z' = clash Deep Reading z z' (omega arith)
 
 pub on_step : {g : G} {w : List ℕ} {p q : Cursor} → Step g w p q → Ahead (takes? g) w p q
 on_step (steps y) = on (y [] [])
@@ -97,7 +95,7 @@ module _ {w : List ℕ} where
   pub at_begin : {i c n f : ℕ} {q : Cursor} → q ≡ begun i c n f → Ahead false w (begun i c n f) q
   at_begin e = same_place (ap (λ (r : Cursor). r.at) e) (ap (λ (r : Cursor). r.status) e)
 
-  pub at_rule : {c n f : ℕ} {p : Cursor} → p.status ≡ READING → Ahead false w p (begun p.at c n f)
+  pub at_rule : {c n f : ℕ} {p : Cursor} → p.status ≡ Reading → Ahead false w p (begun p.at c n f)
   at_rule z = same_place refl (sym z)
 
   -- back where an attempt began
@@ -115,10 +113,10 @@ module _ {w : List ℕ} where
   weaken (ahead y) = ahead (λ z. let (z', h) = y z in (z', omega arith))
 
   -- what comes after a cursor that is reading was read from one
-  pub was : {e : Bool} {p q : Cursor} → Ahead e w p q → q.status ≡ READING → p.status ≡ READING
+  pub was : {e : Bool} {p q : Cursor} → Ahead e w p q → q.status ≡ Reading → p.status ≡ Reading
   was (ahead y) z = (y z).0
 
-  falls : {e : Bool} {p q : Cursor} (m n : ℕ) {t : ℕ} → size w p n ≡ t → p.status ≡ READING → Ahead e w p q → m < n + 64 * one_if e → size w q m < t
+  falls : {e : Bool} {p q : Cursor} (m n : ℕ) {t : ℕ} → size w p n ≡ t → p.status ≡ Reading → Ahead e w p q → m < n + 64 * one_if e → size w q m < t
   unfolding size
   falls {e} {p} {q} m n s z (ahead y) b =
       rw (← s, ap (λ (k : Status). if_reading k (ahead_of w p * 64 + n + 1)) z)
@@ -128,10 +126,10 @@ module _ {w : List ℕ} where
       ])
 
   -- a call past a token, at any rank m; n and t are the caller's rank and measure
-  pub further : {e : Bool} {p q : Cursor} (m n : ℕ) {t : ℕ} → size w p n ≡ t → p.status ≡ READING → Ahead e w p q → Yes e → m < 64 → size w q m < t
+  pub further : {e : Bool} {p q : Cursor} (m n : ℕ) {t : ℕ} → size w p n ≡ t → p.status ≡ Reading → Ahead e w p q → Yes e → m < 64 → size w q m < t
   further {e = true} m n s z y h b = falls m n s z y (omega arith)
   further {e = false} m n s z y h b = absurd h
 
   -- a call that need not be further on, of a lower rank
-  pub lower : {e : Bool} {p q : Cursor} (m n : ℕ) {t : ℕ} → size w p n ≡ t → p.status ≡ READING → Ahead e w p q → m < n → size w q m < t
+  pub lower : {e : Bool} {p q : Cursor} (m n : ℕ) {t : ℕ} → size w p n ≡ t → p.status ≡ Reading → Ahead e w p q → m < n → size w q m < t
   lower m n s z y b = falls m n s z y (omega arith)

@@ -17,8 +17,8 @@ use Rattle.grammar.proofs.Whole.{solid}
 use Rattle.grammar.proofs.First.{empties, firsts, Absent, absent?, absent_of, misses, untaken}
 use Rattle.patterns.proofs.Tests.{and_l, and_r}
 use Rattle.cursor.specs.Entries.{input}
-use Rattle.cursor.specs.Read.{LIMIT, Attempt, Exceeds, Holds, READING, FAILED, DEEP, Upto, Represents, reached, Result, matched, failed, exceeded, Reads, still, reads, begun, ending, Inside, inside}
-use Rattle.cursor.specs.Read.{Puts, puts, Grown, grown, Step, steps, Free, free}
+use Rattle.cursor.specs.Read.{LIMIT, Attempt, Exceeds, Holds, Upto, Represents, reached, Result, matched, failed, exceeded, Reads, still, reads, begun, ending, Inside, inside}
+use Rattle.cursor.specs.Read.{Grown, grown, Step, steps, Free, free}
 use Rattle.cursor.specs.Steps.{with_furthest, rewound, fresh_at, joining, Left, left_still, left}
 use Rattle.cursor.specs.declared.Cursor.{Cursor}
 use Rattle.cursor.specs.declared.Part.{Part}
@@ -26,6 +26,7 @@ use Rattle.cursor.specs.declared.Status.{Status}
 use Rattle.cursor.proofs.Attempts.{within_none, attempt_from, attempt_settled, attempt_and_not, attempt_and_then, attempt_or_first, attempt_or_else, attempt_first, attempt_second, attempt_no_more, attempt_rule, attempt_step, exceeds_and_left, exceeds_and_right, exceeds_or_left, exceeds_or_right, exceeds_first, exceeds_second, exceeds_rule}
 pub use Rattle.cursor.proofs.Cursors.{seen_as, represents_enter, represents_with, represents_leave, some}
 use Rattle.cursor.proofs.Holding.{holds_fewer}
+use Rattle.cursor.specs.declared.Status.TheVariants.{Reading, Failed, Deep}
 
 infixr 40 ◌then◌
 -- statuses told apart
@@ -39,9 +40,9 @@ number Status.Deep = 2
 pub clash : {A : Type 0} {n : Status} (a b : Status) → n ≡ a → n ≡ b → (number a ≡ number b → ⊥) → A
 clash a b e f h = absurd (h (ap number (sym e ∙ f)))
 
-pub reading? : (s : Status) → Dec (s ≡ READING)
+pub reading? : (s : Status) → Dec (s ≡ Reading)
 reading? Status.Reading = yes refl
-reading? s = no (λ e. clash s READING refl e (omega arith))
+reading? s = no (λ e. clash s Reading refl e (omega arith))
 
 pub status_as : {p q : Cursor} {n : Status} → q ≡ p → p.status ≡ n → q.status ≡ n
 status_as e z = ap (λ (q : Cursor). q.status) e ∙ z
@@ -51,7 +52,7 @@ pub kept : {x : Input} {g : G} {s t : S} {U : List ℕ} → Derives body x g s (
 kept {s = s} d H = let a = on_of (added d) in holds_fewer s.nodes a.more (rw a.adds at H)
 
 -- going into a rule
-begun_in : (p : Cursor) → p.status ≡ READING → fresh_at p.at p ≡ begun p.at p.count p.nest p.furthest
+begun_in : (p : Cursor) → p.status ≡ Reading → fresh_at p.at p ≡ begun p.at p.count p.nest p.furthest
 begun_in p z = rw z refl
 
 pub as_deep : {n m : ℕ} → m ≡ 0 → Upto (LIMIT + 1) n (n + m)
@@ -111,32 +112,32 @@ back p q h = omega arith
 
 module _ {text w : List ℕ} where
   -- nothing is read where nothing is being read
-  pub idle : {g : G} {p : Cursor} {T : List ℕ} → (p.status ≡ READING → ⊥) → Reads g text w p T p T
+  pub idle : {g : G} {p : Cursor} {T : List ℕ} → (p.status ≡ Reading → ⊥) → Reads g text w p T p T
   idle n = still n refl refl refl
 
   pub reads_as : {g : G} {p q r : Cursor} {T U : List ℕ} → p ≡ q → Reads g text w p T r U → Reads g text w q T r U
   reads_as e y = rw e at y
 
-  become : {g k : G} {p p' r : Cursor} {s : S} {T U W : List ℕ} → p'.nest ≡ p.nest → Becomes (input text w) p.nest s g k (reached p) (reached p') (r.status ≡ READING) (r.status ≡ FAILED)
+  become : {g k : G} {p p' r : Cursor} {s : S} {T U W : List ℕ} → p'.nest ≡ p.nest → Becomes (input text w) p.nest s g k (reached p) (reached p') (r.status ≡ Reading) (r.status ≡ Failed)
       → (Holds T s.nodes → Holds U s.nodes) → Result g text w p' s U r W → Result k text w p s T r W
   become i B f (matched t z n v c f') = matched t z (n ∙ i) v (B.matches z t _ (rw i at c)) (λ H. f' (f H))
   become i B f (failed z c f') = failed z (B.fails z _ (rw i at c)) (λ H. f' (f H))
   become i B f (exceeded z c) = exceeded z (B.exceeds (rw i at c))
 
   -- what is read is another grammar too
-  pub turned : {g k : G} {p q : Cursor} {T U : List ℕ} → ((s : S) → Represents p s → Becomes (input text w) p.nest s g k (reached p) (reached p) (q.status ≡ READING) (q.status ≡ FAILED)) → Reads g text w p T q U → Reads k text w p T q U
+  pub turned : {g k : G} {p q : Cursor} {T U : List ℕ} → ((s : S) → Represents p s → Becomes (input text w) p.nest s g k (reached p) (reached p) (q.status ≡ Reading) (q.status ≡ Failed)) → Reads g text w p T q U → Reads k text w p T q U
   turned B (still n e i f) = still n e i f
   turned B (reads z l) = reads z (λ s v. become refl (B s v) (λ H. H) (l s v))
 
   -- h in place of g, which failed
-  pub instead : {g h k : G} {p p' q r : Cursor} {T U W : List ℕ} → ((s : S) (b : ℕ) → Attempt (input text w) g p.nest s none (reached p) b → Becomes (input text w) p.nest s h k (reached p) b (r.status ≡ READING) (r.status ≡ FAILED))
-      → Reads g text w p T q U → q.status ≡ FAILED → p' ≡ rewound p q → Reads h text w p' U r W → Reads k text w p T r W
+  pub instead : {g h k : G} {p p' q r : Cursor} {T U W : List ℕ} → ((s : S) (b : ℕ) → Attempt (input text w) g p.nest s none (reached p) b → Becomes (input text w) p.nest s h k (reached p) b (r.status ≡ Reading) (r.status ≡ Failed))
+      → Reads g text w p T q U → q.status ≡ Failed → p' ≡ rewound p q → Reads h text w p' U r W → Reads k text w p T r W
   instead {g} {h} {k} {p} {p'} {q} {r} {T} {U} {W} B y o e u = go y (rw e at u)
     where
       with_failed : (s : S) → Represents p s → Result g text w p s T q U → ((s : S) → Represents (rewound p q) s → Result h text w (rewound p q) s U r W) → Result k text w p s T r W
-      with_failed s v (matched t z n v' c f) l = clash READING FAILED z o (omega arith)
+      with_failed s v (matched t z n v' c f) l = clash Reading Failed z o (omega arith)
       with_failed s v (failed z c f) l = become refl (B s _ (attempt_from refl (sym (back p q c.within.up)) c)) f (l s (represents_with (reached q) p.nest v))
-      with_failed s v (exceeded z c) l = clash DEEP FAILED z o (omega arith)
+      with_failed s v (exceeded z c) l = clash Deep Failed z o (omega arith)
 
       go : Reads g text w p T q U → Reads h text w (rewound p q) U r W → Reads k text w p T r W
       go (still n e i f) (still n' e' i' f') = still n e' (omega arith) (f' ∙ f)
@@ -144,14 +145,14 @@ module _ {text w : List ℕ} where
       go (reads z l) (still n e i f) = absurd (n z)
       go (reads z l) (reads z' l') = reads z (λ s v. with_failed s v (l s v) l')
 
-  pub no_less : {g : G} {p q : Cursor} {T U : List ℕ} → Reads g text w p T q U → (q.status ≡ FAILED) → reached p ≤ reached q
+  pub no_less : {g : G} {p q : Cursor} {T U : List ℕ} → Reads g text w p T q U → (q.status ≡ Failed) → reached p ≤ reached q
   no_less (still n e i f) o = omega arith
   no_less {g} {p} {q} {T} {U} (reads z l) o = let (s, v) = some p in go (l s v)
     where
       go : {s : S} → Result g text w p s T q U → reached p ≤ reached q
       go (matched t z n v c f) = c.within.up
       go (failed z c f) = c.within.up
-      go (exceeded z c) = clash DEEP FAILED z o (omega arith)
+      go (exceeded z c) = clash Deep Failed z o (omega arith)
 
   -- tokens that were taken can be read again with nothing new
   pub reread : {g : G} {p q : Cursor} {T U : List ℕ} (f : ℕ) → reached q ≤ f → Reads g text w p T q U → Reads g text w (with_furthest f p) T (with_furthest f q) U
@@ -167,7 +168,7 @@ module _ {text w : List ℕ} where
       go (exceeded z c) = exceeded z c
 
   -- h where g came to
-  pub joined : {g h k : G} {p q r : Cursor} {T U W : List ℕ} → Joins (input text w) p.nest g h k (q.status ≡ FAILED) → Reads g text w p T q U → Reads h text w q U r W → Reads k text w p T r W
+  pub joined : {g h k : G} {p q r : Cursor} {T U W : List ℕ} → Joins (input text w) p.nest g h k (q.status ≡ Failed) → Reads g text w p T q U → Reads h text w q U r W → Reads k text w p T r W
   joined J (still n e i f) (still n' e' i' f') = still n (e' ∙ e) (i' ∙ i) (f' ∙ f)
   joined J (still n e i f) (reads z l) = absurd (n (sym e ∙ z))
   joined {g} {h} {k} {p} {q} {r} {T} {U} {W} J (reads z l) y = reads z (λ s v. go s (l s v) y)
@@ -181,9 +182,9 @@ module _ {text w : List ℕ} where
       go s (matched t z n v c f) (still h e i e') = absurd (h z)
       go s (matched t z n v c f) (reads _ l) = after s t n c f (l t v)
       go s (failed z c f) (still h e i e') = failed (e ∙ z) (attempt_from refl (sym i) (J.fails z s c)) (λ H. rw e' (f H))
-      go s (failed z c f) (reads z' l) = clash FAILED READING z z' (omega arith)
+      go s (failed z c f) (reads z' l) = clash Failed Reading z z' (omega arith)
       go s (exceeded z c) (still h e i e') = exceeded (e ∙ z) (J.exceeds s c)
-      go s (exceeded z c) (reads z' l) = clash DEEP READING z z' (omega arith)
+      go s (exceeded z c) (reads z' l) = clash Deep Reading z z' (omega arith)
 
   -- one part, then another
   pub ◌then◌ : {g h : G} {p q r : Cursor} {T U W : List ℕ} → Reads g text w p T q U → Reads h text w q U r W → Reads (g & h) text w p T r W
@@ -196,11 +197,11 @@ module _ {text w : List ℕ} where
       })
 
   -- the first alternative, which did not fail
-  pub first : {g h : G} {p q : Cursor} {T U : List ℕ} → Reads g text w p T q U → (q.status ≡ FAILED → ⊥) → Reads (g or h) text w p T q U
+  pub first : {g h : G} {p q : Cursor} {T U : List ℕ} → Reads g text w p T q U → (q.status ≡ Failed → ⊥) → Reads (g or h) text w p T q U
   first y o = turned (λ s v. record { matches = λ z t c d. attempt_or_first d; fails = λ z c d. absurd (o z); exceeds = exceeds_or_left }) y
 
   -- the second, where the first failed
-  pub other : {g h : G} {p p' q r : Cursor} {T U W : List ℕ} → Reads g text w p T q U → q.status ≡ FAILED → p' ≡ rewound p q → Reads h text w p' U r W → Reads (g or h) text w p T r W
+  pub other : {g h : G} {p p' q r : Cursor} {T U W : List ℕ} → Reads g text w p T q U → q.status ≡ Failed → p' ≡ rewound p q → Reads h text w p' U r W → Reads (g or h) text w p T r W
   other = instead (λ s b c. becomes (λ o d e. attempt_or_else c e) (exceeds_or_right c.derived))
 
   pub nothing : {p : Cursor} {T : List ℕ} → Reads (step done) text w p T p T
@@ -209,23 +210,23 @@ module _ {text w : List ℕ} where
       elim (reading? p.status) [ yes z ↦ reads z (λ s v. matched s z refl v (attempt_step tt) (λ H. H)) | no n ↦ idle n ]
 
   -- nothing, where what may be there failed
-  pub absent : {g : G} {p p' q : Cursor} {T U : List ℕ} → Reads g text w p T q U → q.status ≡ FAILED → p' ≡ rewound p q → Reads (g or step done) text w p T p' U
+  pub absent : {g : G} {p p' q : Cursor} {T U : List ℕ} → Reads g text w p T q U → q.status ≡ Failed → p' ≡ rewound p q → Reads (g or step done) text w p T p' U
   absent y o e = other y o e nothing
 
-  pub never_failed : {g : G} {p q : Cursor} {T U : List ℕ} → ((u : S) → Represents p u → Derives body (input text w) g u none → ⊥) → Reads g text w p T q U → (p.status ≡ FAILED → ⊥) → q.status ≡ FAILED → ⊥
+  pub never_failed : {g : G} {p q : Cursor} {T U : List ℕ} → ((u : S) → Represents p u → Derives body (input text w) g u none → ⊥) → Reads g text w p T q U → (p.status ≡ Failed → ⊥) → q.status ≡ Failed → ⊥
   never_failed never (still n e i f) h o = h (sym e ∙ o)
   never_failed {g} {p} {q} {T} {U} never (reads z l) h o = let (s, v) = some p in go s v (l s v)
     where
       go : (s : S) → Represents p s → Result g text w p s T q U → ⊥
-      go s v (matched t z n v' c f) = clash READING FAILED z o (omega arith)
+      go s v (matched t z n v' c f) = clash Reading Failed z o (omega arith)
       go s v (failed z c f) = never s v c.derived
-      go s v (exceeded z c) = clash DEEP FAILED z o (omega arith)
+      go s v (exceeded z c) = clash Deep Failed z o (omega arith)
 
-  pub fine : {g : G} {p q : Cursor} {T U : List ℕ} → Reads (many g) text w p T q U → (p.status ≡ FAILED → ⊥) → q.status ≡ FAILED → ⊥
+  pub fine : {g : G} {p q : Cursor} {T U : List ℕ} → Reads (many g) text w p T q U → (p.status ≡ Failed → ⊥) → q.status ≡ Failed → ⊥
   fine = never_failed (λ u v. many_never u)
 
   -- a rule: gone into, read, and gone out of
-  ruled_by : (r : R) {p e y : Cursor} {n : ℕ} {T U : List ℕ} → Upto (LIMIT + 1) n (p.nest + nests r) → p.status ≡ READING → Reads (body r) text w (begun p.at p.count n p.furthest) T e U → Left p e y
+  ruled_by : (r : R) {p e y : Cursor} {n : ℕ} {T U : List ℕ} → Upto (LIMIT + 1) n (p.nest + nests r) → p.status ≡ Reading → Reads (body r) text w (begun p.at p.count n p.furthest) T e U → Left p e y
       → Reads (rule r) text w p T y U
   unfolding leave
   ruled_by r m z (still h e i f) l = absurd (h refl)
@@ -235,15 +236,15 @@ module _ {text w : List ℕ} where
       go v (matched t z' m' v' c f) (left_still h i j) = absurd (h z')
       go v (matched t z' m' v' c f) (left _ i) = matched _ (status_as i z') (ap (λ (q : Cursor). q.nest) i) (seen_as i (represents_leave v v')) (attempt_from refl (sym (ap reached i)) (attempt_rule m c)) f
       go v (failed z' c f) (left_still h i j) = failed (i ∙ z') (attempt_from refl (sym j) (attempt_rule m c)) f
-      go v (failed z' c f) (left z'' i) = clash FAILED READING z' z'' (omega arith)
+      go v (failed z' c f) (left z'' i) = clash Failed Reading z' z'' (omega arith)
       go v (exceeded z' c) (left_still h i j) = exceeded (i ∙ z') (exceeds_rule m c)
-      go v (exceeded z' c) (left z'' i) = clash DEEP READING z' z'' (omega arith)
+      go v (exceeded z' c) (left z'' i) = clash Deep Reading z' z'' (omega arith)
 
-  pub by_rule : (r : R) {p q q' y : Cursor} {T U : List ℕ} → nests r ≡ 0 → p.status ≡ READING → q ≡ fresh_at p.at p → Reads (body r) text w q T q' U → Left p q' y → Reads (rule r) text w p T y U
+  pub by_rule : (r : R) {p q q' y : Cursor} {T U : List ℕ} → nests r ≡ 0 → p.status ≡ Reading → q ≡ fresh_at p.at p → Reads (body r) text w q T q' U → Left p q' y → Reads (rule r) text w p T y U
   by_rule r {p} e z i u l = ruled_by r (as_deep e) z (rw (i, begun_in p z) at u) l
 
   -- a rule whose inside is a function of its own
-  pub by_part : (r : R) {p y : Cursor} {q : Part} {n : ℕ} {T U : List ℕ} → Upto (LIMIT + 1) n (p.nest + nests r) → p.status ≡ READING → Inside r text w p.at p.count n p.furthest T q U → y ≡ joining p q
+  pub by_part : (r : R) {p y : Cursor} {q : Part} {n : ℕ} {T U : List ℕ} → Upto (LIMIT + 1) n (p.nest + nests r) → p.status ≡ Reading → Inside r text w p.at p.count n p.furthest T q U → y ≡ joining p q
       → Reads (rule r) text w p T y U
   by_part r m z (inside e u f) g = ruled_by r m z u (leaves e (rw f at g))
 
@@ -273,9 +274,6 @@ module _ {text w : List ℕ} where
       elim (reading? p.status) [ yes z ↦ reads z (λ s v. matched s z refl v (attempt_no_more (missed text w e a y v)) (λ H. H)) | no n ↦ idle n ]
 
   -- ---- a wrapper's contract, as a reader's
-  pub one_put : {g : G} {p r : Cursor} {T U : List ℕ} → Puts g w p T r U → Reads g text w p T r U
-  one_put (puts y) = y text
-
   pub one_grown : {g : G} {p r : Cursor} {T U : List ℕ} → Grown g p T r U → Reads g text w p T r U
   one_grown (grown y) = y text w
 

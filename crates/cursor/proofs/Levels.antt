@@ -1,7 +1,7 @@
 -- The binary levels: each goes on from what the level below has read, in one loop. Assumes nothing.
 use mathlib.Core.Path.{◌≡◌, refl, sym, ap, ◌∙◌}
 use mathlib.Core.Bool.{true, false, not, ◌&&◌}
-use Rattle.std.specs.Prelude.{nat_le}
+use Rattle.patterns.specs.Bytes.{within}
 use Rattle.std.proofs.lemmas.Bool.{le-leb}
 use mathlib.Core.List.{List}
 use Prim.Native.Nat.{ℕ, zero, suc, ◌+◌, ◌<◌, ◌≤◌}
@@ -28,15 +28,12 @@ use Rattle.cursor.proofs.Laws.{◌then◌, as_deep, many_miss}
 use Rattle.cursor.proofs.Falls.{Ahead, true_false, takes?, on as further_on, on_step, ◌and_on◌, at_here, weaken}
 
 -- ---- operators
-pub at_level : {w : List ℕ} {p q : Cursor} {n m : ℕ} → n ≡ m → Step (operator m) w p q → Step (operator n) w p q
-at_level e y = rw e y
-
-pub above_level : {w : List ℕ} {p q : Cursor} (n : ℕ) → (n ≡ 0 → ⊥) → (n ≡ 1 → ⊥) → (n ≡ 2 → ⊥) → (n ≡ 3 → ⊥) → Step (operator 4) w p q → Step (operator n) w p q
-above_level zero a b c d y = absurd (a refl)
-above_level (suc zero) a b c d y = absurd (b refl)
-above_level (suc (suc zero)) a b c d y = absurd (c refl)
-above_level (suc (suc (suc zero))) a b c d y = absurd (d refl)
-above_level (suc (suc (suc (suc n)))) a b c d y = y
+pub above_level : {w : List ℕ} {p q : Cursor} (n : ℕ) → 4 ≤ n → Step (operator 4) w p q → Step (operator n) w p q
+above_level zero h y = absurd (omega arith)
+above_level (suc zero) h y = absurd (omega arith)
+above_level (suc (suc zero)) h y = absurd (omega arith)
+above_level (suc (suc (suc zero))) h y = absurd (omega arith)
+above_level (suc (suc (suc (suc n)))) h y = y
 
 takes_operator : (n : ℕ) → takes? (operator n) ≡ true
 takes_operator zero = refl
@@ -53,7 +50,7 @@ pub data NoOperator (k : ℕ) : Type 0 where
   below_all : k < ANDAND → NoOperator k
   above_all : MOD < k → NoOperator k
 
-pub no_operator : {k : ℕ} → false ≡ (nat_le ANDAND k && nat_le k MOD) → NoOperator k
+pub no_operator : {k : ℕ} → false ≡ within ANDAND MOD k → NoOperator k
 no_operator {k} e =
     elim (dec_lt k ANDAND) [
       | yes h ↦ below_all h

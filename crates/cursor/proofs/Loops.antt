@@ -1,6 +1,6 @@
 -- The invariant of a loop that reads `many g`, and its laws. Assumes nothing.
-use mathlib.Core.Path.{◌≡◌, refl, sym, ap, ◌∙◌}
-use mathlib.Core.Bool.{Bool, true, false, not, ◌&&◌}
+use mathlib.Core.Path.{◌≡◌, refl, sym, ◌∙◌}
+use mathlib.Core.Bool.{false, not, ◌&&◌}
 use mathlib.Core.List.{List}
 use Prim.Native.Nat.{ℕ}
 use native.Mathlib.Omega.{arith}
@@ -11,13 +11,14 @@ use Rattle.tables.specs.Tables.{token_at}
 use Rattle.grammar.proofs.Progress.{sane?}
 use Rattle.grammar.proofs.Whole.{solid}
 use Rattle.grammar.proofs.First.{empties, firsts, Absent, absent?, absent_of}
-use Rattle.grammar.specs.Derive.{G, ◌&◌, many, S}
-use Rattle.cursor.specs.Read.{READING, FAILED, DEEP, Represents, reached, Result, matched, failed, exceeded, Reads, still, reads}
+use Rattle.grammar.specs.Derive.{G, many, S}
+use Rattle.cursor.specs.Read.{Represents, reached, Result, matched, failed, exceeded, Reads, still, reads}
 use Rattle.cursor.specs.Steps.{rewound}
 use Rattle.cursor.specs.declared.Cursor.{Cursor}
 use Rattle.cursor.proofs.Attempts.{attempt_from, attempt_no_more, attempt_one_more, exceeds_now, exceeds_later}
-use Rattle.cursor.proofs.Laws.{clash, status_as, represents_with, back, idle, joined, many_miss, ◌then◌}
-use Rattle.cursor.proofs.Falls.{Ahead, true_false, on, ◌and_on◌, at_here, weaken}
+use Rattle.cursor.proofs.Laws.{clash, represents_with, back, idle, joined, many_miss}
+use Rattle.cursor.proofs.Falls.{Ahead, on, ◌and_on◌, at_here, weaken}
+use Rattle.cursor.specs.declared.Status.TheVariants.{Reading, Failed, Deep}
 
 -- so many rounds after p₀ and T₀: what `many g` reads from there on it reads from p₀; how far on that is; the table's length
 pub record Looping (text w : List ℕ) (g : G) (p₀ : Cursor) (T₀ : List ℕ) (p : Cursor) (T : List ℕ) : Type 0 where
@@ -30,7 +31,7 @@ module _ {text w : List ℕ} where
   rounds_begin = record { rounds = λ r U y. y; on = at_here; kept = refl }
 
   -- a round more, which did not fail
-  pub rounds_next : {g : G} {p₀ p q : Cursor} {T₀ T U : List ℕ} → Looping text w g p₀ T₀ p T → Reads g text w p T q U → (q.status ≡ FAILED → ⊥) → length U ≡ length T₀ → Looping text w g p₀ T₀ q U
+  pub rounds_next : {g : G} {p₀ p q : Cursor} {T₀ T U : List ℕ} → Looping text w g p₀ T₀ p T → Reads g text w p T q U → (q.status ≡ Failed → ⊥) → length U ≡ length T₀ → Looping text w g p₀ T₀ q U
   rounds_next L y n k =
       record {
         rounds =
@@ -47,13 +48,13 @@ module _ {text w : List ℕ} where
       }
 
   -- a round that failed is the end
-  pub rounds_end : {g : G} {p₀ p p' q : Cursor} {T₀ T U : List ℕ} → Looping text w g p₀ T₀ p T → p.status ≡ READING → Reads g text w p T q U → q.status ≡ FAILED → p' ≡ rewound p q → Reads (many g) text w p₀ T₀ p' U
+  pub rounds_end : {g : G} {p₀ p p' q : Cursor} {T₀ T U : List ℕ} → Looping text w g p₀ T₀ p T → p.status ≡ Reading → Reads g text w p T q U → q.status ≡ Failed → p' ≡ rewound p q → Reads (many g) text w p₀ T₀ p' U
   rounds_end {g} {p₀} {p} {p'} {q} {T₀} {T} {U} L z y o e = L.rounds p' U (rw e (last y))
     where
       none_more : (s : S) → Represents p s → Result g text w p s T q U → Result (many g) text w p s T (rewound p q) U
-      none_more s v (matched t z' n v' c f) = clash READING FAILED z' o (omega arith)
+      none_more s v (matched t z' n v' c f) = clash Reading Failed z' o (omega arith)
       none_more s v (failed z' c f) = matched s z refl (represents_with (reached q) p.nest v) (attempt_from refl (sym (back p q c.within.up)) (attempt_no_more c)) f
-      none_more s v (exceeded z' c) = clash DEEP FAILED z' o (omega arith)
+      none_more s v (exceeded z' c) = clash Deep Failed z' o (omega arith)
 
       last : Reads g text w p T q U → Reads (many g) text w p T (rewound p q) U
       last (still n e i f) = absurd (n z)
@@ -70,48 +71,5 @@ module _ {text w : List ℕ} where
       rounds_miss L (sym f ∙ e) (absent_of j (firsts g) (and_l (absent? j (firsts g)) _ y)) (and_r (absent? j (firsts g)) _ y)
 
   -- and so is a cursor that is not reading
-  pub rounds_off : {g : G} {p₀ p : Cursor} {T₀ T : List ℕ} → Looping text w g p₀ T₀ p T → (p.status ≡ READING → ⊥) → Reads (many g) text w p₀ T₀ p T
+  pub rounds_off : {g : G} {p₀ p : Cursor} {T₀ T : List ℕ} → Looping text w g p₀ T₀ p T → (p.status ≡ Reading → ⊥) → Reads (many g) text w p₀ T₀ p T
   rounds_off {p = p} {T = T} L n = L.rounds p T (idle n)
-
--- ---- rounds of h after a g, which the loop's first round reads
-pub data Led (text w : List ℕ) (g h : G) (p₀ : Cursor) (T₀ : List ℕ) (first : Bool) (p : Cursor) (T : List ℕ) : Type 0 where
-  not_yet : first ≡ true → p ≡ p₀ → T ≡ T₀ → Led text w g h p₀ T₀ first p T
-  led : {q : Cursor} {U : List ℕ} → first ≡ false → Reads g text w p₀ T₀ q U → Looping text w h q U p T → Led text w g h p₀ T₀ first p T
-
-pub record Leading (text w : List ℕ) (g h : G) (p₀ : Cursor) (T₀ : List ℕ) (first : Bool) (p : Cursor) (T : List ℕ) : Type 0 where
-  pub so_far : Led text w g h p₀ T₀ first p T
-  pub on : Ahead false w p₀ p
-  pub kept : length T ≡ length T₀
-
-module _ {text w : List ℕ} {g h : G} where
-  pub leading_begin : {p : Cursor} {T : List ℕ} → Leading text w g h p T true p T
-  leading_begin = record { so_far = not_yet refl refl refl; on = at_here; kept = refl }
-
-  pub leading_first : {p₀ p q : Cursor} {T₀ T U : List ℕ} {b : Bool} → Leading text w g h p₀ T₀ b p T → b ≡ true → Reads g text w p T q U → length U ≡ length T → Leading text w g h p₀ T₀ false q U
-  leading_first {p₀} {p} {q} {T₀} {T} {U} {b} L t y k = record { so_far = go L.so_far y; on = weaken (L.on and_on on y); kept = k ∙ L.kept }
-    where
-      go : Led text w g h p₀ T₀ b p T → Reads g text w p T q U → Led text w g h p₀ T₀ false q U
-      go (not_yet _ i j) y = led refl (rw (i, j) at y) rounds_begin
-      go (led f y₀ L₀) y = absurd (true_false (sym t ∙ f))
-
-  pub leading_next : {p₀ p q : Cursor} {T₀ T U : List ℕ} {b : Bool} → Leading text w g h p₀ T₀ b p T → b ≡ false → Reads h text w p T q U → (q.status ≡ FAILED → ⊥) → length U ≡ length T
-      → Leading text w g h p₀ T₀ b q U
-  leading_next {p₀} {p} {q} {T₀} {T} {U} {b} L t y n k = record { so_far = go L.so_far; on = weaken (L.on and_on on y); kept = k ∙ L.kept }
-    where
-      go : Led text w g h p₀ T₀ b p T → Led text w g h p₀ T₀ b q U
-      go (not_yet f i j) = absurd (true_false (sym f ∙ t))
-      go (led f y₀ L₀) = led f y₀ (rounds_next L₀ y n (k ∙ L₀.kept))
-
-  pub leading_end : {p₀ p p' q : Cursor} {T₀ T U : List ℕ} {b : Bool} → Leading text w g h p₀ T₀ b p T → b ≡ false → p.status ≡ READING → Reads h text w p T q U → q.status ≡ FAILED → p' ≡ rewound p q → Reads (g & many h) text w p₀ T₀ p' U
-  leading_end {p₀} {p} {p'} {q} {T₀} {T} {U} {b} L t z y o e = go L.so_far
-    where
-      go : Led text w g h p₀ T₀ b p T → Reads (g & many h) text w p₀ T₀ p' U
-      go (not_yet f i j) = absurd (true_false (sym f ∙ t))
-      go (led f y₀ L₀) = y₀ then rounds_end L₀ z y o e
-
-  pub leading_off : {p₀ p : Cursor} {T₀ T : List ℕ} {b : Bool} → Leading text w g h p₀ T₀ b p T → (p.status ≡ READING → ⊥) → Reads (g & many h) text w p₀ T₀ p T
-  leading_off {p₀} {p} {T₀} {T} {b} L n = go L.so_far
-    where
-      go : Led text w g h p₀ T₀ b p T → Reads (g & many h) text w p₀ T₀ p T
-      go (not_yet f i j) = still (λ z. n (status_as i z)) (status_as i refl) (ap reached i) j
-      go (led f y₀ L₀) = y₀ then rounds_off L₀ n

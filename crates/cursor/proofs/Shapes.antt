@@ -16,7 +16,7 @@ use Rattle.grammar.proofs.Progress.{sane?, sane_of}
 use Rattle.grammar.proofs.Whole.{solid, derives}
 use Rattle.grammar.proofs.Total.{Some, some}
 use Rattle.cursor.specs.Entries.{input}
-use Rattle.cursor.specs.Read.{Attempt, READING, FAILED, DEEP, reached, Result, matched, failed, exceeded, Reads, still, reads}
+use Rattle.cursor.specs.Read.{Attempt, reached, Result, matched, failed, exceeded, Reads, still, reads}
 use Rattle.cursor.specs.Steps.{rewound, Agreed, agrees_not, agrees_else, agrees, shallow}
 use Rattle.cursor.specs.declared.Cursor.{Cursor}
 use Rattle.cursor.proofs.Attempts.{within_as, within_both, attempt_as, attempt_from, attempt_settled, attempt_and_not, attempt_and_then, attempt_or_else, attempt_both, attempt_step}
@@ -24,6 +24,7 @@ use Rattle.cursor.proofs.Attempts.{exceeds_by, exceeds_and_left, exceeds_and_rig
 use Rattle.cursor.proofs.Laws.{seen_as, represents_with, clash, status_as, kept, becomes, turned, instead, joined}
 use Rattle.cursor.proofs.Steps.{halted}
 pub use Rattle.cursor.proofs.Laws.{many_never, opt_never, and_never}
+use Rattle.cursor.specs.declared.Status.TheVariants.{Reading, Failed, Deep}
 
 -- ---- attempts put together otherwise
 module _ {x : Input} where
@@ -108,7 +109,7 @@ module _ {text w : List ℕ} where
       })
 
   -- the second may also do without it
-  pub element : {a h k l : G} {p q r : Cursor} {T U W : List ℕ} → ((u : S) → Derives body (input text w) k u none → ⊥) → Reads a text w p T q U → (q.status ≡ FAILED → ⊥) → Reads (h or (k & l)) text w q U r W
+  pub element : {a h k l : G} {p q r : Cursor} {T U W : List ℕ} → ((u : S) → Derives body (input text w) k u none → ⊥) → Reads a text w p T q U → (q.status ≡ Failed → ⊥) → Reads (h or (k & l)) text w q U r W
       → Reads ((a & h) or (((a & k) or step done) & l)) text w p T r W
   element never y f =
       joined (record {
@@ -121,7 +122,7 @@ module _ {text w : List ℕ} where
         over = λ s t d. exceeds_by (λ i m l. takes_element d);
       }) y
 
-  pub no_element : {a h k l : G} {p p' q r : Cursor} {T U W : List ℕ} → Reads a text w p T q U → q.status ≡ FAILED → p' ≡ rewound p q → Reads l text w p' U r W
+  pub no_element : {a h k l : G} {p p' q r : Cursor} {T U W : List ℕ} → Reads a text w p T q U → q.status ≡ Failed → p' ≡ rewound p q → Reads l text w p' U r W
       → Reads ((a & h) or (((a & k) or step done) & l)) text w p T r W
   unfolding yields
   no_element =
@@ -147,7 +148,7 @@ flat (two p q) (and_left t) = flat p t
 flat (two p q) (and_right d t) = flat q t
 
 module _ {text w : List ℕ} where
-  pub both_not : {g h : G} {p e : Cursor} {T U : List ℕ} → Yes (sane? solid h) → Reads g text w p T e U → (e.status ≡ READING → ⊥) → Reads (both g h) text w p T e U
+  pub both_not : {g h : G} {p e : Cursor} {T U : List ℕ} → Yes (sane? solid h) → Reads g text w p T e U → (e.status ≡ Reading → ⊥) → Reads (both g h) text w p T e U
   both_not {g} {h} y u f =
       turned (λ s v. record { matches = λ z t b c. absurd (f z); fails = λ z b c. with_second c (derives (input text w) h s (sane_of solid h y)); exceeds = exceeds_both }) u
     where
@@ -155,7 +156,7 @@ module _ {text w : List ℕ} where
       with_second c (some {o = q} d) = attempt_as (agree_none q) (attempt_both c d)
 
   -- the second is read at nest 0, as only the first's tokens count
-  pub both_read : {g h : G} {p p₀ e q r : Cursor} {T U W : List ℕ} → Flat h → Reads g text w p T e U → e.status ≡ READING → p₀ ≡ shallow p → Reads h text w p₀ U q W → Agreed p.nest e q r
+  pub both_read : {g h : G} {p p₀ e q r : Cursor} {T U W : List ℕ} → Flat h → Reads g text w p T e U → e.status ≡ Reading → p₀ ≡ shallow p → Reads h text w p₀ U q W → Agreed p.nest e q r
       → Reads (both g h) text w p T r W
   unfolding agree
   both_read j (still n i m f) o k y a = absurd (n (sym i ∙ o))
@@ -163,8 +164,8 @@ module _ {text w : List ℕ} where
   both_read {g} {h} {p} {p₀} {e} {q} {r} {T} {U} {W} j (reads z l) o k (reads z' l') a = reads z (λ s v. go (l s v) (rw k at (l' s (rw k (represents_with p.furthest 0 v)))) a)
     where
       go : {s : S} → Result g text w p s T e U → Result h text w (shallow p) s U q W → Agreed p.nest e q r → Result (both g h) text w p s T r W
-      go (failed z c f) y a = clash FAILED READING z o (omega arith)
-      go (exceeded z c) y a = clash DEEP READING z o (omega arith)
+      go (failed z c f) y a = clash Failed Reading z o (omega arith)
+      go (exceeded z c) y a = clash Deep Reading z o (omega arith)
       go (matched t z n v c f) (matched u z₁ n₁ v₁ c₁ f₁) (agrees_not j i) = absurd (j z₁)
       go (matched t z n v c f) (matched u z₁ n₁ v₁ c₁ f₁) (agrees_else j i m) =
           let m' = halted o m in
@@ -183,6 +184,6 @@ module _ {text w : List ℕ} where
       go (matched t z n v c f) (failed z₁ c₁ f₁) (agrees_not j i) =
           let i' = halted o i in
           failed (status_as i' z₁) (attempt_from refl (sym (ap reached i')) (attempt_both c c₁.derived)) (λ H. f₁ (kept c.derived (f H)))
-      go (matched t z n v c f) (failed z₁ c₁ f₁) (agrees_else j i m) = clash FAILED READING z₁ j (omega arith)
-      go (matched t z n v c f) (failed z₁ c₁ f₁) (agrees j i m) = clash FAILED READING z₁ j (omega arith)
+      go (matched t z n v c f) (failed z₁ c₁ f₁) (agrees_else j i m) = clash Failed Reading z₁ j (omega arith)
+      go (matched t z n v c f) (failed z₁ c₁ f₁) (agrees j i m) = clash Failed Reading z₁ j (omega arith)
       go (matched t z n v c f) (exceeded z₁ c₁) a = let y : c₁.nest ≡ 0 = flat j c₁.takes in absurd (omega (arith, c₁.above))

@@ -20,7 +20,7 @@ use denote.Enum.Declared.{tag_of}
 use Rattle.grammar.specs.Grammar.{body, nests, tok, op, named_type}
 use Rattle.grammar.proofs.Unique.{unique}
 use Rattle.cursor.specs.Entries.{input, MAX16, MAX64}
-use Rattle.cursor.specs.Read.{Attempt, Exceeds, Holds, READING, FAILED, DEEP, Upto, Represents, reached, Result, matched, failed, exceeded, Reads, still, reads, Puts, puts}
+use Rattle.cursor.specs.Read.{Attempt, Exceeds, Holds, Upto, Represents, reached, Result, matched, failed, exceeded, Reads, still, reads}
 use Rattle.cursor.specs.Steps.{named_number, up, with_status, Halted, was_halted, halts, Advanced, not_reading, not_there, too_deep, advanced, with_mark, with_part, counted, with_unknown, Emitted, emitted, Closed, not_closed, closes}
 use Rattle.cursor.specs.declared.Cursor.{Cursor}
 use Rattle.cursor.specs.declared.Status.{Status}
@@ -28,13 +28,14 @@ use Rattle.cursor.proofs.Attempts.{within_as, attempt_as, attempt_from, attempt_
 use Rattle.cursor.proofs.Cursors.{upto_as, near, test, upto_up, seen_as, represents_past, represents_mark, represents_emit, represents_closed}
 use Rattle.cursor.proofs.Holding.{entry_is, holds_more}
 use Rattle.cursor.proofs.Laws.{clash, reading?, status_as, kept, idle}
+use Rattle.cursor.specs.declared.Status.TheVariants.{Reading, Failed, Deep}
 
 -- no kind is 0
 pub above_none : (k : TokenType) → 1 ≤ kind_of k
 above_none TokenType.LiteralNumber = omega arith
 above_none k = omega arith
 
-pub halted : {k : Status} {p r : Cursor} → p.status ≡ READING → Halted k p r → r ≡ with_status k p
+pub halted : {k : Status} {p r : Cursor} → p.status ≡ Reading → Halted k p r → r ≡ with_status k p
 halted z (was_halted n e) = absurd (n z)
 halted z (halts h e) = e
 
@@ -55,6 +56,14 @@ pub record Bounds (start end children value : ℕ) (T : List ℕ) : Type 0 where
 pub past_all : (w : List ℕ) (i : ℕ) {n k : ℕ} → n ≡ length w / 16 → n ≤ i → 1 ≤ k → (token_at w i).kind ≡ k → ⊥
 past_all w i e h l q = omega (arith, number_none 16 i w 0 1 (omega arith))
 
+-- a token of a kind other than 0 is there
+pub there : (w : List ℕ) (i : ℕ) {k : ℕ} → (token_at w i).kind ≡ k → 1 ≤ k → i < length w / 16
+there w i e h =
+    elim (dec_lt i (length w / 16)) [
+      | yes y ↦ y
+      | no y ↦ absurd (past_all w i refl (omega arith) h e)
+    ]
+
 -- the one after i; at the largest number there is none
 pub token_after : (w : List ℕ) {i n k : ℕ} → length w < 0x1_0000_0000_0000_0000 → i < 0x1_0000_0000_0000_0000 → n ≡ up MAX64 i → k ≡ (token_at w n).kind → k ≡ (token_at w (i + 1)).kind
 token_after w {i} {n} h l e f =
@@ -63,7 +72,7 @@ token_after w {i} {n} h l e f =
       | no b ↦ omega (arith, f, number_none 16 n w 0 1 (omega arith), number_none 16 (i + 1) w 0 1 (omega arith))
     ]
 
-next_token : (text w : List ℕ) {p : Cursor} {s : S} → Represents p s → token (input text w) s.at ≡ token_at w p.at
+pub next_token : (text w : List ℕ) {p : Cursor} {s : S} → Represents p s → token (input text w) s.at ≡ token_at w p.at
 next_token text w {s = s} v = tokens_at w s.at ∙ ap (token_at w) (sym v.at)
 
 -- a cursor tells nothing of the literals with an unknown suffix
@@ -79,7 +88,7 @@ record Acts (text w : List ℕ) (a : Act) (p : Cursor) (s : S) (T : List ℕ) (r
 
 module _ {text w : List ℕ} {k : ℕ} {p q : Cursor} where
   -- it is not there, or too deep
-  pub stopped : {a : Act} {T : List ℕ} → Advanced w k p q → (q.status ≡ READING → ⊥) → Reads (step (take k a)) text w p T q T
+  pub stopped : {a : Act} {T : List ℕ} → Advanced w k p q → (q.status ≡ Reading → ⊥) → Reads (step (take k a)) text w p T q T
   unfolding yields
   stopped (not_reading n e) z = still n (status_as e refl) (ap reached e) refl
   stopped (not_there y n e) z =
@@ -90,12 +99,12 @@ module _ {text w : List ℕ} {k : ℕ} {p q : Cursor} where
   stopped (advanced y i l b e) z = absurd (z (status_as e y))
 
   -- it is taken
-  taken : {a : Act} {r : Cursor} {T U : List ℕ} → Advanced w k p q → q.status ≡ READING → r.status ≡ q.status → r.nest ≡ q.nest → reached r ≡ reached q
+  taken : {a : Act} {r : Cursor} {T U : List ℕ} → Advanced w k p q → q.status ≡ Reading → r.status ≡ q.status → r.nest ≡ q.nest → reached r ≡ reached q
       → ((s : S) → Represents q (next s) → Acts text w a p s T r U) → Reads (step (take k a)) text w p T r U
   unfolding yields
   taken (not_reading n e) z f g h l = absurd (n (status_as (sym e) z))
-  taken (not_there y n e) z f g h l = clash FAILED READING (status_as e refl) z (omega arith)
-  taken (too_deep y i m e) z f g h l = clash DEEP READING e z (omega arith)
+  taken (not_there y n e) z f g h l = clash Failed Reading (status_as e refl) z (omega arith)
+  taken (too_deep y i m e) z f g h l = clash Deep Reading e z (omega arith)
   taken (advanced y i m b e) z f g h l =
       reads y (λ s v.
       let o = l s (seen_as e (represents_past v)) in
@@ -108,10 +117,10 @@ module _ {text w : List ℕ} {k : ℕ} {p q : Cursor} where
         | no n ↦ stopped y n
       ]
 
-  pub marks : {m : ℕ} {T : List ℕ} → Advanced w k p q → q.status ≡ READING → Reads (op k m) text w p T (with_mark m q) T
+  pub marks : {m : ℕ} {T : List ℕ} → Advanced w k p q → q.status ≡ Reading → Reads (op k m) text w p T (with_mark m q) T
   marks {m} y z = taken y z refl refl refl (λ s v. record { to = marked m (next s); acted = refl; represents = represents_mark near v; holds = λ H. H })
 
-  pub leaves : {n d v a b : ℕ} {c : Act} {r : Cursor} {T U : List ℕ} → Advanced w k p q → q.status ≡ READING → a ≡ (token_at w p.at).start → b ≡ (token_at w p.at).end
+  pub leaves : {n d v a b : ℕ} {c : Act} {r : Cursor} {T U : List ℕ} → Advanced w k p q → q.status ≡ Reading → a ≡ (token_at w p.at).start → b ≡ (token_at w p.at).end
       → Bounds a b 0 v T → r ≡ with_part a b (counted q) → U ≡ stored 16 T q.count (encode_node (record { kind = n; base = d; start = a; end = b; children = 0; value = v }))
       → (u : S → List Token) → ((s : S) → act (input text w) c (token_at w p.at) (next s) ≡ got (with_unknown (u s) (emit (token_at w p.at) n d v (next s))))
       → Reads (step (take k c)) text w p T r U
@@ -126,9 +135,9 @@ module _ {text w : List ℕ} {k : ℕ} {p q : Cursor} where
 
 module _ {k n b v : ℕ} {w : List ℕ} {p : Cursor} {T : List ℕ} {r : Cursor} {U : List ℕ} where
   -- of an act that makes just this leaf of the token
-  pub emits : {a : Act} (text : List ℕ) (u : S → List Token) → ((s : S) → act (input text w) a (token_at w p.at) (next s) ≡ got (with_unknown (u s) (emit (token_at w p.at) n b v (next s))))
+  pub emits : {a : Act} {text : List ℕ} (u : S → List Token) → ((s : S) → act (input text w) a (token_at w p.at) (next s) ≡ got (with_unknown (u s) (emit (token_at w p.at) n b v (next s))))
       → Emitted k n b v w p T r U → Reads (step (take k a)) text w p T r U
-  emits {a} text u h (emitted y) = y text a u h
+  emits {a} {text} u h (emitted y) = y text a u h
 
 -- ---- one act by another
 
@@ -173,18 +182,18 @@ module _ {text w : List ℕ} {k : ℕ} {a b : Act} {p : Cursor} where
 
   -- b turns down what a took
   pub turned_down : {q r : Cursor} {T U : List ℕ} → ((s : S) → act (input text w) b (token_at w p.at) (next s) ≡ none)
-      → Reads (step (take k a)) text w p T q U → Halted FAILED q r → Reads (step (take k b)) text w p T r U
+      → Reads (step (take k a)) text w p T q U → Halted Failed q r → Reads (step (take k b)) text w p T r U
   turned_down d (still n e j f) (was_halted m i) = still n (status_as i e) (ap reached i ∙ j) f
   turned_down d (still n e j f) (halts y i) = absurd (n (sym e ∙ y))
   turned_down {q} {r} {T} {U} d (reads z l) h = reads z (λ s v. go s v (l s v) h)
     where
-      go : (s : S) → Represents p s → Result (step (take k a)) text w p s T q U → Halted FAILED q r → Result (step (take k b)) text w p s T r U
+      go : (s : S) → Represents p s → Result (step (take k a)) text w p s T q U → Halted Failed q r → Result (step (take k b)) text w p s T r U
       go s v (matched t z n o c f) (was_halted m e) = absurd (m z)
       go s v (matched t z n o c f) (halts y e) = failed (status_as e refl) (attempt_from refl (sym (ap reached e)) (follows (λ _. none) refl (rw (next_token text w v) (d s)) c)) (λ H. kept c.derived (f H))
       go s v (failed z c f) (was_halted m e) = failed (status_as e z) (attempt_from refl (sym (ap reached e)) (follows (λ _. none) refl (rw (next_token text w v) (d s)) c)) f
-      go s v (failed z c f) (halts y e) = clash FAILED READING z y (omega arith)
+      go s v (failed z c f) (halts y e) = clash Failed Reading z y (omega arith)
       go s v (exceeded z c) (was_halted m e) = exceeded (status_as e z) (exceeds_too c)
-      go s v (exceeded z c) (halts y e) = clash DEEP READING z y (omega arith)
+      go s v (exceeded z c) (halts y e) = clash Deep Reading z y (omega arith)
 
 named_tag : (n : NamedType) → tag_of the_type n ≡ named_number n
 named_tag NamedType.Felt = refl
@@ -193,8 +202,8 @@ named_tag NamedType.U32 = refl
 named_tag NamedType.Custom = refl
 
 -- a name whose value is told by its spelling
-pub named : {text w : List ℕ} (n : NamedType) {p r : Cursor} {T U : List ℕ} → named_number n ≡ type_name (spelling (input text w) (token_at w p.at)) → Puts (step (take IDENT (leaf Named (tag_of the_type n)))) w p T r U → Reads named_type text w p T r U
-named {text} n e (puts y) = same_act (λ s. s.unknown) (λ s. rw (← e, ← named_tag n)) (y text)
+pub named : {text w : List ℕ} (n : NamedType) {p r : Cursor} {T U : List ℕ} → named_number n ≡ type_name (spelling (input text w) (token_at w p.at)) → Reads (step (take IDENT (leaf Named (tag_of the_type n)))) text w p T r U → Reads named_type text w p T r U
+named n e y = same_act (λ s. s.unknown) (λ s. rw (← e, ← named_tag n)) y
 
 -- ---- no token
 
@@ -232,7 +241,7 @@ module _ {text w : List ℕ} {p : Cursor} where
       matched (closed k (starts (input text w) a s) (ends (input text w) b s) s) (status_as e z) (nest_of e) (seen_as e (represents_closed k i j v)) (attempt_from refl (sym (ap reached e)) (attempt_step tt))
       (λ H. rw (f, entry_is k 0 l.start_fits l.end_fits l.children_fits l.value_fits i j v.parts v.mark) (holds_more _ (omega arith) v.count H)))
 
-  pub ticks : {m : ℕ} {T : List ℕ} → p.status ≡ READING → m ≡ up MAX64 p.mark → Reads (step tick) text w p T (with_mark m p) T
+  pub ticks : {m : ℕ} {T : List ℕ} → p.status ≡ Reading → m ≡ up MAX64 p.mark → Reads (step tick) text w p T (with_mark m p) T
   unfolding yields
   ticks z e =
       reads z (λ s v. matched (marked (suc s.frame.mark) s) z refl (represents_mark (rw e (upto_up v.mark)) v) (attempt_step tt) (λ H. H))
@@ -245,7 +254,7 @@ module _ {text w : List ℕ} {p : Cursor} where
         | no n ↦ idle n
       ]
 
-  pub not_alone : {r : Cursor} {T : List ℕ} → (p.parts ≡ 1 → ⊥) → Halted FAILED p r → Reads (step alone) text w p T r T
+  pub not_alone : {r : Cursor} {T : List ℕ} → (p.parts ≡ 1 → ⊥) → Halted Failed p r → Reads (step alone) text w p T r T
   unfolding yields
   not_alone e (was_halted n f) = still n (status_as f refl) (ap reached f) refl
   not_alone e (halts z f) =

@@ -7,8 +7,9 @@ use Rattle.grammar.specs.Grammar.{body, nests, tok}
 use Rattle.cursor.specs.Entries.{input, MAX16, MAX64, entry_of}
 use Rattle.cursor.specs.declared.Cursor.{Cursor}
 use Rattle.cursor.specs.declared.Part.{Part}
-use Rattle.cursor.specs.declared.Status.{Status}
+use Rattle.cursor.specs.declared.Source.{Source}
 use Rattle.cursor.specs.declared.StmtPart.{StmtPart}
+use Rattle.cursor.specs.declared.Status.TheVariants.{Reading, Failed, Deep}
 
 -- ---- attempts
 
@@ -44,16 +45,6 @@ pub record Holds (T : List ℕ) (ns : List Node) : Type 0 where
 
 -- ---- cursors
 
--- a cursor's status: it is reading, what it read failed, or that was too deep
-abbrev pub READING : Status
-READING = Status.Reading
-
-abbrev pub FAILED : Status
-FAILED = Status.Failed
-
-abbrev pub DEEP : Status
-DEEP = Status.Deep
-
 -- the same number, or both at least l
 pub record Upto (l n m : ℕ) : Type 0 where
   pub upto : min n l ≡ min m l
@@ -74,21 +65,21 @@ reached p = max p.at p.furthest
 
 -- what became of g, read with the cursor p, which stands for s, and the table T
 pub data Result (g : G) (text w : List ℕ) (p : Cursor) (s : S) (T : List ℕ) (r : Cursor) (U : List ℕ) : Type 0 where
-  matched : (t : S) → r.status ≡ READING → r.nest ≡ p.nest → Represents r t → Attempt (input text w) g p.nest s (got t) (reached p) (reached r)
+  matched : (t : S) → r.status ≡ Reading → r.nest ≡ p.nest → Represents r t → Attempt (input text w) g p.nest s (got t) (reached p) (reached r)
       → (Holds T s.nodes → Holds U t.nodes) → Result g text w p s T r U
-  failed : r.status ≡ FAILED → Attempt (input text w) g p.nest s none (reached p) (reached r) → (Holds T s.nodes → Holds U s.nodes) → Result g text w p s T r U
-  exceeded : r.status ≡ DEEP → Exceeds (input text w) g p.nest s → Result g text w p s T r U
+  failed : r.status ≡ Failed → Attempt (input text w) g p.nest s none (reached p) (reached r) → (Holds T s.nodes → Holds U s.nodes) → Result g text w p s T r U
+  exceeded : r.status ≡ Deep → Exceeds (input text w) g p.nest s → Result g text w p s T r U
 
 -- a reader of g, given the cursor p and the node table T, left r and U; what is not reading stays so and comes no further
 pub data Reads (g : G) (text w : List ℕ) (p : Cursor) (T : List ℕ) (r : Cursor) (U : List ℕ) : Type 0 where
-  still : (p.status ≡ READING → ⊥) → r.status ≡ p.status → reached r ≡ reached p → U ≡ T → Reads g text w p T r U
-  reads : p.status ≡ READING → ((s : S) → Represents p s → Result g text w p s T r U) → Reads g text w p T r U
+  still : (p.status ≡ Reading → ⊥) → r.status ≡ p.status → reached r ≡ reached p → U ≡ T → Reads g text w p T r U
+  reads : p.status ≡ Reading → ((s : S) → Represents p s → Result g text w p s T r U) → Reads g text w p T r U
 
--- the same of one that looks at no spelling
-pub data Puts (g : G) (w : List ℕ) (p : Cursor) (T : List ℕ) (r : Cursor) (U : List ℕ) : Type 0 where
-  puts : ((text : List ℕ) → Reads g text w p T r U) → Puts g w p T r U
+-- the same, of a text and its tokens
+abbrev pub Parses : G → Source → Cursor → List ℕ → Cursor → List ℕ → Type 0
+Parses g x p T r U = Reads g x.text.now x.tokens.now p T r U
 
--- nor at a token
+-- the same of one that looks at neither text nor tokens
 pub data Grown (g : G) (p : Cursor) (T : List ℕ) (r : Cursor) (U : List ℕ) : Type 0 where
   grown : ((text w : List ℕ) → Reads g text w p T r U) → Grown g p T r U
 
@@ -104,7 +95,7 @@ pub data Free (g : G) (p r : Cursor) : Type 0 where
 -- at the first token of a rule: the token i, after c nodes, at nest n, where dropped attempts came up to f
 abbrev pub begun : ℕ → ℕ → ℕ → ℕ → Cursor
 begun i c n f =
-    record { at = i; count = c; furthest = f; nest = n; status = READING; first = i; parts = 0; mark = 0; from = 0; to = 0 }
+    record { at = i; count = c; furthest = f; nest = n; status = Reading; first = i; parts = 0; mark = 0; from = 0; to = 0 }
 
 -- what a rule that ends so is to the construct around it
 abbrev pub ending : Cursor → Part
@@ -130,4 +121,4 @@ ending_with f e = record { part = ending e; tried = f }
 
 -- a reader of g, given the cursor p and the node table T, left U and has read q, and an `else` where that ends fails at p's nest if q says so
 pub data Ends (g : G) (text w : List ℕ) (p : Cursor) (T : List ℕ) (q : StmtPart) (U : List ℕ) : Type 0 where
-  ends : (e : Cursor) → Reads g text w p T e U → q.part ≡ ending e → (q.tried ≡ true → e.status ≡ READING → Tried text w p.nest e.at (reached e)) → Ends g text w p T q U
+  ends : (e : Cursor) → Reads g text w p T e U → q.part ≡ ending e → (q.tried ≡ true → e.status ≡ Reading → Tried text w p.nest e.at (reached e)) → Ends g text w p T q U

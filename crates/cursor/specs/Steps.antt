@@ -6,12 +6,13 @@ use Rattle.tables.specs.TokenKinds.{NOT, MINUS, LPAREN, LBRACE, LBRACK, DOT}
 use Rattle.grammar.specs.Derive.{Token, unary, Act, take, step, S, got, next, emit, act}
 use Rattle.grammar.specs.Grammar.{body}
 use Rattle.cursor.specs.Entries.{input, MAX16, MAX64}
-use Rattle.cursor.specs.Read.{LIMIT, READING, FAILED, DEEP, reached, Reads, ending}
+use Rattle.cursor.specs.Read.{LIMIT, reached, Reads, ending}
 use Rattle.cursor.specs.declared.Cursor.{Cursor}
 use Rattle.cursor.specs.declared.Part.{Part}
 use Rattle.cursor.specs.declared.Status.{Status}
 use Rattle.grammar.specs.declared.node_value.NamedType.{NamedType}
 use Rattle.grammar.specs.declared.node_value.UnaryOp.{UnaryOp}
+use Rattle.cursor.specs.declared.Status.TheVariants.{Reading, Failed, Deep}
 
 -- what a Named's value says
 abbrev pub named_number : NamedType → ℕ
@@ -31,8 +32,8 @@ with_status k p =
 
 -- that status, if it was reading
 pub data Halted (status : Status) (p r : Cursor) : Type 0 where
-  was_halted : (p.status ≡ READING → ⊥) → r ≡ p → Halted status p r
-  halts : p.status ≡ READING → r ≡ with_status status p → Halted status p r
+  was_halted : (p.status ≡ Reading → ⊥) → r ≡ p → Halted status p r
+  halts : p.status ≡ Reading → r ≡ with_status status p → Halted status p r
 
 -- dropped attempts came up to f
 abbrev pub with_furthest : ℕ → Cursor → Cursor
@@ -50,10 +51,10 @@ past p =
 
 -- past a token of kind k: it is not there, it is too deep, or it is taken
 pub data Advanced (w : List ℕ) (k : ℕ) (p r : Cursor) : Type 0 where
-  not_reading : (p.status ≡ READING → ⊥) → r ≡ p → Advanced w k p r
-  not_there : p.status ≡ READING → ((token_at w p.at).kind ≡ k → ⊥) → r ≡ with_status FAILED p → Advanced w k p r
-  too_deep : p.status ≡ READING → (token_at w p.at).kind ≡ k → LIMIT < p.nest → r.status ≡ DEEP → Advanced w k p r
-  advanced : p.status ≡ READING → (token_at w p.at).kind ≡ k → p.nest ≤ LIMIT → p.at < length w / 16 → r ≡ past p → Advanced w k p r
+  not_reading : (p.status ≡ Reading → ⊥) → r ≡ p → Advanced w k p r
+  not_there : p.status ≡ Reading → ((token_at w p.at).kind ≡ k → ⊥) → r ≡ with_status Failed p → Advanced w k p r
+  too_deep : p.status ≡ Reading → (token_at w p.at).kind ≡ k → LIMIT < p.nest → r.status ≡ Deep → Advanced w k p r
+  advanced : p.status ≡ Reading → (token_at w p.at).kind ≡ k → p.nest ≤ LIMIT → p.at < length w / 16 → r ≡ past p → Advanced w k p r
 
 -- another mark
 abbrev pub with_mark : ℕ → Cursor → Cursor
@@ -86,8 +87,8 @@ closed_at a b p =
 
 -- a node of what was gathered
 pub data Closed (k a b : ℕ) (p : Cursor) (T : List ℕ) (r : Cursor) (U : List ℕ) : Type 0 where
-  not_closed : (p.status ≡ READING → ⊥) → r ≡ p → U ≡ T → Closed k a b p T r U
-  closes : p.status ≡ READING → r ≡ closed_at a b p
+  not_closed : (p.status ≡ Reading → ⊥) → r ≡ p → U ≡ T → Closed k a b p T r U
+  closes : p.status ≡ Reading → r ≡ closed_at a b p
       → U ≡ stored 16 T p.count (encode_node (record { kind = k; base = 0; start = a; end = b; children = p.parts; value = p.mark })) → Closed k a b p T r U
 
 -- at the token i, with nothing gathered
@@ -102,8 +103,8 @@ joining p q =
 
 -- out of a rule again: what q gathered is one part more of what p did
 pub data Left (p q r : Cursor) : Type 0 where
-  left_still : (q.status ≡ READING → ⊥) → r.status ≡ q.status → reached r ≡ reached q → Left p q r
-  left : q.status ≡ READING → r ≡ joining p (ending q) → Left p q r
+  left_still : (q.status ≡ Reading → ⊥) → r.status ≡ q.status → reached r ≡ reached q → Left p q r
+  left : q.status ≡ Reading → r ≡ joining p (ending q) → Left p q r
 
 -- another nest
 abbrev pub at_nest : ℕ → Cursor → Cursor
@@ -116,9 +117,9 @@ shallow p = at_nest 0 p
 
 -- q at nest n, if e, which read the same tokens, came to the same place; how far attempts came is e's
 pub data Agreed (n : ℕ) (e q r : Cursor) : Type 0 where
-  agrees_not : (q.status ≡ READING → ⊥) → Halted q.status e r → Agreed n e q r
-  agrees_else : q.status ≡ READING → (e.at ≡ q.at → ⊥) → Halted FAILED e r → Agreed n e q r
-  agrees : q.status ≡ READING → e.at ≡ q.at → r ≡ with_furthest e.furthest (at_nest n q) → Agreed n e q r
+  agrees_not : (q.status ≡ Reading → ⊥) → Halted q.status e r → Agreed n e q r
+  agrees_else : q.status ≡ Reading → (e.at ≡ q.at → ⊥) → Halted Failed e r → Agreed n e q r
+  agrees : q.status ≡ Reading → e.at ≡ q.at → r ≡ with_furthest e.furthest (at_nest n q) → Agreed n e q r
 
 -- ---- operands
 
@@ -130,7 +131,7 @@ continues k = (k == LPAREN) || (k == DOT) || (k == LBRACK) || (k == LBRACE)
 
 -- at the operand of prefixes that end there; if they are past the limit, too deep
 pub data Restarted (e : ℕ) (p r : Cursor) : Type 0 where
-  restarts_deep : p.at < e → LIMIT < p.nest → Halted DEEP p r → Restarted e p r
+  restarts_deep : p.at < e → LIMIT < p.nest → Halted Deep p r → Restarted e p r
   restarts : (p.at < e → p.nest ≤ LIMIT) → r ≡ fresh_at e p → Restarted e p r
 
 -- past a prefix alone
@@ -144,6 +145,10 @@ pub data Prefix (k : ℕ) (r : Option UnaryOp) : Type 0 where
   a_not : r ≡ Some UnaryOp.Not → k ≡ NOT → Prefix k r
   a_minus : r ≡ Some UnaryOp.Neg → k ≡ MINUS → Prefix k r
 
+-- a token's kind: it is a prefix
+abbrev pub is_prefix : ℕ → Bool
+is_prefix k = (k == NOT) || (k == MINUS)
+
 -- what a Unary's value says
 abbrev pub unary_number : UnaryOp → ℕ
 unary_number UnaryOp.Not = 0
@@ -156,6 +161,6 @@ pub record Prefixes (w : List ℕ) (a b : ℕ) : Type 0 where
   pub over : Prefix (token_at w b).kind None
 
 -- what was read past the prefixes from p on is made the operand of each, the last first
-pub record Unwound (w : List ℕ) (p : Cursor) (e : ℕ) (q : Cursor) (T : List ℕ) (r : Cursor) (U : List ℕ) : Type 0 where
-  pub up : Prefixes w p.at e → p.status ≡ READING → (p.at < e → p.nest ≤ LIMIT) → (text T₀ : List ℕ)
+pub record Unwound (text w : List ℕ) (p : Cursor) (e : ℕ) (q : Cursor) (T : List ℕ) (r : Cursor) (U : List ℕ) : Type 0 where
+  pub up : Prefixes w p.at e → p.status ≡ Reading → (p.at < e → p.nest ≤ LIMIT) → (T₀ : List ℕ)
       → Reads (body unary) text w (fresh_at e p) T₀ q T → Reads (body unary) text w (fresh_at p.at p) T₀ r U

@@ -1,23 +1,26 @@
 // Where a reader stands, and the steps that every reader is made of.
 #![tactic(auto)]
 
-ghost use Rattle.std.specs.Prelude.{◌≡◌, ◌==◌, ◌&&◌, take as first_of, drop, ◌+◌, ◌-◌, min, nat_le};
+pub mod repeated;
+
+ghost use Rattle.std.specs.Prelude.{◌≡◌, ◌==◌, take as first_of, drop, ◌+◌, ◌-◌, min};
+ghost use Rattle.patterns.specs.Bytes.{within};
 ghost use Rattle.tables.specs.Tables.{token_at};
-ghost use Rattle.tables.specs.TokenKinds.{kind_of as token_kind};
+ghost use Rattle.tables.specs.TokenKinds.{ANDAND, MOD, kind_of as token_kind};
 ghost use Rattle.grammar.specs.Derive.{step, take, leaf, index, literal, count, close, tick, alone, literal_kind, type_name, spelling, first_token, first_part, last_token, last_part, call_end};
 ghost use Rattle.grammar.specs.Kinds.{Call, kind_of as node_kind};
 ghost use Rattle.grammar.specs.Grammar.{tok, op, opt, name, numeral, whole, operands, spanless};
 ghost use Rattle.cursor.specs.Entries.{input};
-ghost use Rattle.cursor.specs.Read.{Puts, Grown, Step, Free, reached, begun, ending, ending_with};
+ghost use Rattle.cursor.specs.Read.{Parses, Grown, Step, Free, reached, begun, ending, ending_with};
 ghost use Rattle.cursor.specs.Steps.{named_number, Halted, rewound, Advanced, Emitted, Closed, Agreed, Restarted, Left, with_part, fresh_at, signed_at, shallow, joining};
 
 use grammar::node_kind::NodeKind;
 use grammar::node_value::NamedType;
-use patterns::is_word;
+use tables::entry_codes::Suffix;
 use tables::token_type::TokenType;
 use tables::{Entry, Node, Token};
 
-// What became of a reading so far.
+// What became of a reading so far. What failed goes as it is through the rest of a rule. Tried: a `Result` from each step, by `?`, with which long lists take an eighth to a quarter more time (docs/DECISIONS.md); and each of its 193 `?` is a return to be proved.
 #[derive(Clone, Copy, PartialEq, Eq)]
 pub enum Status {
     Reading,
@@ -74,11 +77,11 @@ pub struct Kind {
 
 impl Kind {
     // The kind of a token.
-    pub fn of(tokens: &[u8], i: usize) -> Kind
-        ensures { result.byte ≡ (token_at tokens.now i).kind }
+    pub fn of(source: &Source, i: usize) -> Kind
+        ensures { result.byte ≡ (token_at source.now.tokens.now i).kind }
     {
         Kind {
-            byte: Token::at(tokens, i).kind,
+            byte: Token::at(source.tokens, i).kind,
         }
     }
 
@@ -88,31 +91,31 @@ impl Kind {
         self.byte == kind as u8
     }
 
-    // One of those from the first to the last.
-    pub fn is_among(self, first: TokenType, last: TokenType) -> bool
-        ensures { result ≡ (nat_le (token_kind first) self.byte && nat_le self.byte (token_kind last)) }
+    // A binary operator's.
+    pub fn is_binary_op(self) -> bool
+        ensures { result ≡ within ANDAND MOD self.byte }
     {
-        self.byte >= first as u8 && self.byte <= last as u8
+        (TokenType::AndAnd as u8..=TokenType::Mod as u8).contains(&self.byte)
     }
 }
 
 impl Cursor {
     // The kind of the next token.
-    pub fn peek(self, tokens: &[u8]) -> Kind
-        ensures { result.byte ≡ (token_at tokens.now self.at).kind }
+    pub fn peek(self, source: &Source) -> Kind
+        ensures { result.byte ≡ (token_at source.now.tokens.now self.at).kind }
     {
-        Kind::of(tokens, self.at)
+        Kind::of(source, self.at)
     }
 
     // The kind of the token after the next.
-    pub fn second(self, tokens: &[u8]) -> Kind
-        ensures { result.byte ≡ (token_at tokens.now (self.at + 1)).kind }
+    pub fn second(self, source: &Source) -> Kind
+        ensures { result.byte ≡ (token_at source.now.tokens.now (self.at + 1)).kind }
     {
-        Kind::of(tokens, self.at.saturating_add(1))
+        Kind::of(source, self.at.saturating_add(1))
     }
 
     // Another status, for a cursor that was reading.
-    fn halt(mut self, status: Status) -> Cursor
+    pub fn halt(mut self, status: Status) -> Cursor
         ensures { Halted status self result }
     {
         if self.status != Status::Reading {
@@ -126,11 +129,7 @@ impl Cursor {
     pub fn reached(self) -> usize
         ensures { result ≡ reached self }
     {
-        if self.at < self.furthest {
-            self.furthest
-        } else {
-            self.at
-        }
+        self.at.max(self.furthest)
     }
 
     // Back here, after an attempt that failed: how far it came is kept.
@@ -142,16 +141,13 @@ impl Cursor {
     }
 
     // Past a token of this kind, if it is there and not too deep.
-    fn advance(mut self, tokens: &[u8], kind: TokenType) -> Cursor
-        ensures { Advanced tokens.now (token_kind kind) self result }
+    fn advance(mut self, source: &Source, kind: TokenType) -> Cursor
+        ensures { Advanced source.now.tokens.now (token_kind kind) self result }
     {
         if self.status != Status::Reading {
             return self;
         }
-        if self.at >= Token::room(tokens) {
-            return self.halt(Status::Failed);
-        }
-        if !Kind::of(tokens, self.at).is(kind) {
+        if !Kind::of(source, self.at).is(kind) {
             return self.halt(Status::Failed);
         }
         if self.nest > LIMIT {
@@ -162,17 +158,17 @@ impl Cursor {
     }
 
     // Takes a token of this kind.
-    pub fn take(self, tokens: &[u8], kind: TokenType) -> Cursor
-        ensures { Step (tok (token_kind kind)) tokens.now self result }
+    pub fn take(self, source: &Source, kind: TokenType) -> Cursor
+        ensures { Step (tok (token_kind kind)) source.now.tokens.now self result }
     {
-        self.advance(tokens, kind)
+        self.advance(source, kind)
     }
 
     // Takes a token of this kind if it is there.
-    pub fn skip(self, tokens: &[u8], kind: TokenType) -> Cursor
-        ensures { Step (opt (tok (token_kind kind))) tokens.now self result }
+    pub fn skip(self, source: &Source, kind: TokenType) -> Cursor
+        ensures { Step (opt (tok (token_kind kind))) source.now.tokens.now self result }
     {
-        let p = self.advance(tokens, kind);
+        let p = self.advance(source, kind);
         if p.status == Status::Failed {
             return self.rewind(p);
         }
@@ -180,10 +176,10 @@ impl Cursor {
     }
 
     // Takes a token of this kind, and sets the mark.
-    pub fn mark(self, tokens: &[u8], kind: TokenType, m: u64) -> Cursor
-        ensures { Step (op (token_kind kind) m) tokens.now self result }
+    pub fn mark(self, source: &Source, kind: TokenType, m: u64) -> Cursor
+        ensures { Step (op (token_kind kind) m) source.now.tokens.now self result }
     {
-        let mut p = self.advance(tokens, kind);
+        let mut p = self.advance(source, kind);
         if p.status != Status::Reading {
             return p;
         }
@@ -192,12 +188,12 @@ impl Cursor {
     }
 
     // Takes a numeral without a suffix, whose value is the mark.
-    pub fn index(self, tokens: &[u8]) -> Cursor
-        ensures { Step (numeral index) tokens.now self result }
+    pub fn index(self, source: &Source) -> Cursor
+        ensures { Step (numeral index) source.now.tokens.now self result }
     {
-        let token = Token::at(tokens, self.at);
-        let p = self.mark(tokens, TokenType::LiteralNumber, token.value);
-        if token.suffix != 0 {
+        let token = Token::at(source.tokens, self.at);
+        let p = self.mark(source, TokenType::LiteralNumber, token.value);
+        if token.suffix != Suffix::Absent as u8 {
             return p.halt(Status::Failed);
         }
         p
@@ -218,20 +214,20 @@ impl Cursor {
     // Takes a token of this kind, and emits a leaf.
     fn emit(
         self,
-        tokens: &[u8],
+        source: &Source,
         nodes: &mut [u8],
         kind: TokenType,
         node: NodeKind,
         base: u8,
         value: u64,
     ) -> Cursor
-        ensures { Emitted (token_kind kind) (node_kind node) base value tokens.now self nodes.old result nodes.new }
+        ensures { Emitted (token_kind kind) (node_kind node) base value source.now.tokens.now self nodes.old result nodes.new }
     {
-        let mut p = self.advance(tokens, kind);
+        let mut p = self.advance(source, kind);
         if p.status != Status::Reading {
             return p;
         }
-        let token = Token::at(tokens, self.at);
+        let token = Token::at(source.tokens, self.at);
         let entry = Node {
             kind: node as u8,
             base,
@@ -248,31 +244,31 @@ impl Cursor {
     // The same of one that is no numeral.
     pub fn leaf(
         self,
-        tokens: &[u8],
+        source: &Source,
         nodes: &mut [u8],
         kind: TokenType,
         node: NodeKind,
         value: u64,
     ) -> Cursor
-        ensures { Puts (step (take (token_kind kind) (leaf (node_kind node) value))) tokens.now self nodes.old result nodes.new }
+        ensures { Parses (step (take (token_kind kind) (leaf (node_kind node) value))) source.now self nodes.old result nodes.new }
     {
-        self.emit(tokens, nodes, kind, node, 0, value)
+        self.emit(source, nodes, kind, node, 0, value)
     }
 
     // Takes a name, and emits a Name.
-    pub fn spanned_ident(self, tokens: &[u8], nodes: &mut [u8]) -> Cursor
-        ensures { Puts name tokens.now self nodes.old result nodes.new }
+    pub fn spanned_ident(self, source: &Source, nodes: &mut [u8]) -> Cursor
+        ensures { Parses name source.now self nodes.old result nodes.new }
     {
-        self.leaf(tokens, nodes, TokenType::Identifier, NodeKind::Name, 0)
+        self.leaf(source, nodes, TokenType::Identifier, NodeKind::Name, 0)
     }
 
     // Takes a numeral, and emits a literal by its suffix.
-    pub fn literal(self, tokens: &[u8], nodes: &mut [u8]) -> Cursor
-        ensures { Puts (numeral literal) tokens.now self nodes.old result nodes.new }
+    pub fn literal(self, source: &Source, nodes: &mut [u8]) -> Cursor
+        ensures { Parses (numeral literal) source.now self nodes.old result nodes.new }
     {
-        let token = Token::at(tokens, self.at);
+        let token = Token::at(source.tokens, self.at);
         self.emit(
-            tokens,
+            source,
             nodes,
             TokenType::LiteralNumber,
             literal_kind(token.suffix),
@@ -282,17 +278,17 @@ impl Cursor {
     }
 
     // Takes a numeral without a suffix, and emits a Count.
-    pub fn count(self, tokens: &[u8], nodes: &mut [u8]) -> Cursor
-        ensures { Puts (numeral count) tokens.now self nodes.old result nodes.new }
+    pub fn count(self, source: &Source, nodes: &mut [u8]) -> Cursor
+        ensures { Parses (numeral count) source.now self nodes.old result nodes.new }
     {
-        let token = Token::at(tokens, self.at);
-        if token.suffix != 0 {
+        let token = Token::at(source.tokens, self.at);
+        if token.suffix != Suffix::Absent as u8 {
             return self
-                .take(tokens, TokenType::LiteralNumber)
+                .take(source, TokenType::LiteralNumber)
                 .halt(Status::Failed);
         }
         self.emit(
-            tokens,
+            source,
             nodes,
             TokenType::LiteralNumber,
             NodeKind::Count,
@@ -347,11 +343,11 @@ impl Cursor {
     }
 
     // A node over all its tokens.
-    pub fn whole(self, tokens: &[u8], nodes: &mut [u8], kind: NodeKind) -> Cursor
-        ensures { Puts (whole (node_kind kind)) tokens.now self nodes.old result nodes.new }
+    pub fn whole(self, source: &Source, nodes: &mut [u8], kind: NodeKind) -> Cursor
+        ensures { Parses (whole (node_kind kind)) source.now self nodes.old result nodes.new }
     {
-        let first = Token::at(tokens, self.first);
-        let last = Token::at(tokens, self.at.saturating_sub(1));
+        let first = Token::at(source.tokens, self.first);
+        let last = Token::at(source.tokens, self.at.saturating_sub(1));
         self.close(nodes, kind, first.start, last.end)
     }
 
@@ -363,18 +359,18 @@ impl Cursor {
     }
 
     // A node from its operand to the last token.
-    pub fn suffixed(self, tokens: &[u8], nodes: &mut [u8], kind: NodeKind) -> Cursor
-        ensures { Puts (step (close (node_kind kind) first_part last_token)) tokens.now self nodes.old result nodes.new }
+    pub fn suffixed(self, source: &Source, nodes: &mut [u8], kind: NodeKind) -> Cursor
+        ensures { Parses (step (close (node_kind kind) first_part last_token)) source.now self nodes.old result nodes.new }
     {
-        let last = Token::at(tokens, self.at.saturating_sub(1));
+        let last = Token::at(source.tokens, self.at.saturating_sub(1));
         self.close(nodes, kind, self.from, last.end)
     }
 
     // A node from its first token to its operand.
-    pub fn prefixed(self, tokens: &[u8], nodes: &mut [u8], kind: NodeKind) -> Cursor
-        ensures { Puts (step (close (node_kind kind) first_token last_part)) tokens.now self nodes.old result nodes.new }
+    pub fn prefixed(self, source: &Source, nodes: &mut [u8], kind: NodeKind) -> Cursor
+        ensures { Parses (step (close (node_kind kind) first_token last_part)) source.now self nodes.old result nodes.new }
     {
-        let first = Token::at(tokens, self.first);
+        let first = Token::at(source.tokens, self.first);
         self.close(nodes, kind, first.start, self.to)
     }
 
@@ -395,7 +391,7 @@ impl Cursor {
         self.close(nodes, kind, 0, 0)
     }
 
-    // At the first token of a rule. These are four numbers and no struct: a struct goes through memory, which is slower.
+    // At the first token of a rule. These are four numbers and no struct, which would go through memory (docs/DECISIONS.md, "A rule's inside is a function of numbers").
     pub fn begin(at: usize, count: usize, nest: u8, furthest: usize) -> Cursor
         ensures { result ≡ begun at count nest furthest }
     {
@@ -473,15 +469,7 @@ impl Cursor {
     pub fn leave(self, outer: Cursor) -> Cursor
         ensures { Left outer self result }
     {
-        if self.status != Status::Reading {
-            return self;
-        }
-        let mut p = outer.part(self.from, self.to);
-        p.at = self.at;
-        p.count = self.count;
-        p.furthest = self.furthest;
-        p.status = self.status;
-        p
+        outer.join(self.ended())
     }
 
     // The same at nest 0: for a second look at tokens that have been taken.
@@ -542,14 +530,16 @@ pub fn deeper(nest: u8) -> u8
 fn literal_kind(suffix: u8) -> NodeKind
     ensures { node_kind result ≡ literal_kind suffix }
 {
-    match suffix {
-        1 => NodeKind::LiteralFelt,
-        2 => NodeKind::LiteralU32,
-        _ => NodeKind::Literal,
+    if suffix == Suffix::Felt as u8 {
+        NodeKind::LiteralFelt
+    } else if suffix == Suffix::U32 as u8 {
+        NodeKind::LiteralU32
+    } else {
+        NodeKind::Literal
     }
 }
 
-// A text, and the table of its tokens.
+// A text, and the table of its tokens. The node table is lent beside it: in one struct, which would be lent to be written, each contract would have to say that text and tokens stay.
 #[derive(Clone, Copy)]
 pub struct Source<'a> {
     pub text: &'a [u8],
@@ -562,33 +552,28 @@ impl<'a> Source<'a> {
         ensures { named_number result ≡ type_name (spelling (input self.now.text.now self.now.tokens.now) (token_at self.now.tokens.now at)) }
     {
         let token = Token::at(self.tokens, at);
-        named_type(self.text, token.start, token.end)
+        named_type(between(self.text, token.start, token.end))
     }
 }
 
-// A Named's value, by where its spelling starts and ends.
-fn named_type(text: &[u8], start: u16, end: u16) -> NamedType
-    ensures { named_number result ≡ type_name (first_of (end - start) (drop start text.now)) }
+// The bytes from one place to another, as far as there are any.
+fn between(text: &[u8], start: u16, end: u16) -> &[u8]
+    ensures { result.now ≡ first_of (end - start) (drop start text.now) }
 {
-    let from = (start as usize).min(text.len());
     let to = (end as usize).min(text.len());
-    if to < from {
-        return NamedType::Custom;
-    }
-    name_kind(&text[from..to])
+    let from = (start as usize).min(to);
+    &text[from..to]
 }
 
-fn name_kind(name: &[u8]) -> NamedType
+// A Named's value, by its spelling.
+#[tactic(auto, unfolding(grammar::specs::Derive::type_name, patterns::specs::Bytes::same, patterns::specs::Bytes::starts))]
+fn named_type(name: &[u8]) -> NamedType
     ensures { named_number result ≡ type_name name.now }
 {
-    if is_word(name, b"felt") {
-        return NamedType::Felt;
+    match name {
+        b"felt" => NamedType::Felt,
+        b"bool" => NamedType::Bool,
+        b"u32" => NamedType::U32,
+        _ => NamedType::Custom,
     }
-    if is_word(name, b"bool") {
-        return NamedType::Bool;
-    }
-    if is_word(name, b"u32") {
-        return NamedType::U32;
-    }
-    NamedType::Custom
 }

@@ -3,7 +3,7 @@ use mathlib.Core.Path.{◌≡◌, sym, ap, ◌∙◌}
 use mathlib.Core.List.{List}
 use Prim.Native.Nat.{ℕ, ◌/◌}
 use Rattle.tables.specs.Tables.{Token, Diagnostic, diagnostic_at, tabulate}
-use Rattle.cairo_m.specs.Reading.{Reading, ReadingIs, outcome_of, counts_of}
+use Rattle.cairo_m.specs.Reading.{outcome_of, counts_of}
 use Rattle.cairo_m.specs.declared.Counts.{Counts}
 use Rattle.cairo_m.specs.Bases.{BasesAre}
 use Rattle.cairo_m.proofs.Determined.{reading_one}

@@ -11,6 +11,6 @@ mod tokens;
 pub use lists::{cairo_m_list, cairo_m_list_refused};
 pub use names::spelling;
 pub use numerals::cairo_m_numeral;
-pub use reading::{cairo_m_read, cairo_m_spelling, read_numbers};
+pub use reading::{cairo_m_read, cairo_m_spelling};
 pub use records::Diagnostic;
 pub use tokens::cairo_m_lex;

@@ -8,9 +8,9 @@ use grammar::node_kind::NodeKind;
 fn is_spelt(kind: u8) -> bool
     ensures { result ≡ spelt kind }
 {
-    kind == NodeKind::Name as u8
-        || kind == NodeKind::Named as u8
-        || kind == NodeKind::Identifier as u8
+    [NodeKind::Name, NodeKind::Named, NodeKind::Identifier]
+        .iter()
+        .any(|&spelt| spelt as u8 == kind)
 }
 
 // The part of the text that a Name, Named or Identifier spans; empty for another kind, or a span that is not within the text.

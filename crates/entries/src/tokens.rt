@@ -2,7 +2,8 @@
 ghost use Rattle.std.specs.Prelude.{length};
 ghost use Rattle.entries.specs.Tokens.{LexIs};
 
-use lexer::{LexError, lex_alone};
+use cairo_m::{Accepted, Refusal, counts_of, outcome_of};
+use lexer::lex_alone;
 
 // The outcome's number, and through the last two references how many tokens and diagnostics there are.
 pub fn cairo_m_lex(
@@ -14,22 +15,15 @@ pub fn cairo_m_lex(
 ) -> u32
     ensures { LexIs text.now (length tokens.old) (length diagnostics.old) tokens.new diagnostics.new result token_count.new diagnostic_count.new }
 {
-    *token_count = 0;
-    *diagnostic_count = 0;
-    match lex_alone(text, tokens, diagnostics) {
-        Ok(lexed) => {
-            *token_count = lexed.tokens;
-            0
-        }
-        Err(LexError::Long) => 1,
-        Err(LexError::Encoding) => 2,
-        Err(LexError::Lexical(count)) => {
-            *diagnostic_count = count;
-            3
-        }
-        Err(LexError::TokenRoom(count)) => {
-            *token_count = count;
-            4
-        }
-    }
+    // As a reading that has no nodes.
+    let r = lex_alone(text, tokens, diagnostics)
+        .map(|lexed| Accepted {
+            tokens: lexed.tokens,
+            nodes: 0,
+        })
+        .map_err(Refusal::from);
+    let counts = counts_of(r);
+    *token_count = counts.tokens;
+    *diagnostic_count = counts.diagnostics;
+    outcome_of(r)
 }

@@ -1,58 +1,53 @@
 -- An array whose values are written one by one. Assumes nothing.
 use mathlib.Core.Path.{◌≡◌, refl, sym, ap, subst, ◌∙◌}
 use mathlib.Core.List.{List, [], ◌∷◌, ◌++◌, map, append_assoc, append-nil}
-use Prim.Native.Nat.{ℕ, zero, suc, ◌+◌, ◌≤◌, ◌<◌}
-use native.Mathlib.Numerals.{add-one}
+use Prim.Native.Nat.{ℕ, ◌≤◌, ◌<◌}
 use native.Mathlib.Omega.{arith}
-use Rattle.tables.specs.Tables.{tabulate}
+use lib.ListN.{length}
+use Rattle.tables.proofs.Numbered.{each, each_more}
 use Rattle.json_text.specs.Json.{following, array}
-use Rattle.json_text.specs.Writes.{Writes}
+use Rattle.json_text.specs.Writes.{Writes, added}
 use Rattle.json_text.specs.declared.writer.Writer.{Writer}
 use Rattle.json_text.proofs.Writing.{both, same_text, nothing}
 
--- the values before value i, with commas between
-pub begun : ℕ → (ℕ → List ℕ) → List ℕ
-begun zero f = []
-begun (suc zero) f = f 0
-begun (suc (suc i)) f = begun (suc i) f ++ (44 ∷ f (suc i))
+-- values with commas between
+pub begun : List (List ℕ) → List ℕ
+unfolding added
+begun [] = []
+begun (w ∷ l) = w ++ added l
 
-last_of : {A : Type 0} (n : ℕ) (g : ℕ → A) (l : List A) → tabulate n g ++ (g n ∷ l) ≡ tabulate (suc n) g ++ l
-unfolding tabulate
-last_of zero g l = refl
-last_of (suc n) g l = ap (λ (x : List _). g 0 ∷ x) (last_of n (λ j. g (suc j)) l)
+pub added_is : (l : List (List ℕ)) → added l ++ (93 ∷ []) ≡ following l
+unfolding added following
+added_is [] = refl
+added_is (w ∷ l) = ap (44 ∷◌) (append_assoc w (added l) (93 ∷ []) ∙ ap (w ++◌) (added_is l))
 
-begun_on : (i : ℕ) (f : ℕ → List ℕ) (l : List (List ℕ)) → begun (suc i) f ++ following l ≡ f 0 ++ following (tabulate i (λ j. f (suc j)) ++ l)
-unfolding begun tabulate following
-begun_on zero f l = refl
-begun_on (suc i) f l =
-    append_assoc (begun (suc i) f) (44 ∷ f (suc i)) (following l)
-    ∙ begun_on i f (f (suc i) ∷ l)
-    ∙ ap (λ (x : List (List ℕ)). f 0 ++ following x) (last_of i (λ j. f (suc j)) l)
+array_is : (l : List (List ℕ)) → 91 ∷ (begun l ++ (93 ∷ [])) ≡ array l
+unfolding begun array
+array_is [] = refl
+array_is (w ∷ l) = ap (91 ∷◌) (append_assoc w (added l) (93 ∷ []) ∙ ap (w ++◌) (added_is l))
 
-array_is : (n : ℕ) (f : ℕ → List ℕ) → 91 ∷ (begun n f ++ (93 ∷ [])) ≡ array (tabulate n f)
-unfolding begun array following tabulate
-array_is zero f = refl
-array_is (suc n) f = ap (λ (x : List ℕ). 91 ∷ x) (begun_on n f [] ∙ ap (λ (x : List (List ℕ)). f 0 ++ following x) (append-nil (tabulate n (λ j. f (suc j)))))
+added_more : (l : List (List ℕ)) (w : List ℕ) → added (l ++ (w ∷ [])) ≡ added l ++ (44 ∷ w)
+unfolding added
+added_more [] w = ap (44 ∷◌) (append-nil w)
+added_more (v ∷ l) w = ap (λ x. 44 ∷ (v ++ x)) (added_more l w) ∙ ap (44 ∷◌) (sym (append_assoc v (added l) (44 ∷ w)))
 
-map-tabulate : {A B : Type 0} (f : A → B) (n : ℕ) (g : ℕ → A) → map f (tabulate n g) ≡ tabulate n (λ i. f (g i))
-unfolding tabulate
-map-tabulate f zero g = refl
-map-tabulate f (suc n) g = ap (λ (l : List _). f (g 0) ∷ l) (map-tabulate f n (λ i. g (suc i)))
-
-module _ (f : ℕ → List ℕ) {a : Writer} where
-  pub begun_none : Writes (begun 0 f) a a
+module _ {A : Type 0} (f : A → List ℕ) where
+  pub begun_none : {a : Writer} → Writes (begun (each f [])) a a
   unfolding begun
   begun_none = nothing
 
-  pub begun_first : {i : ℕ} {b b' c : Writer} → i ≤ 0 → Writes (begun i f) a b → b' ≡ b → Writes (f i) b' c → Writes (begun (i + 1) f) a c
-  unfolding begun
-  begun_first {i = zero} {c = c} h p e q = both p (subst (λ (w : Writer). Writes (f 0) w c) e q)
-  begun_first {i = suc i} h p e q = absurd (omega arith)
+  pub begun_first : {a b b' c : Writer} (xs : List (ℕ × A)) {i : ℕ} (x : A) → i ≡ length xs → i ≤ 0 → Writes (begun (each f xs)) a b → b' ≡ b → Writes (f x) b' c → Writes (begun (each f (xs ++ ((i, x) ∷ [])))) a c
+  unfolding begun added
+  begun_first {c = c} [] x n h p e q = same_text (sym (append-nil (f x))) (both p (subst (λ (w : Writer). Writes (f x) w c) e q))
+  begun_first (y ∷ xs) x n h p e q = absurd (omega arith)
 
-  pub begun_next : {i : ℕ} {b b' b'' c : Writer} → 0 < i → Writes (begun i f) a b → Writes (44 ∷ []) b b'' → b' ≡ b'' → Writes (f i) b' c → Writes (begun (i + 1) f) a c
+  pub begun_next : {a b b' b'' c : Writer} (xs : List (ℕ × A)) {i : ℕ} (x : A) → i ≡ length xs → 0 < i → Writes (begun (each f xs)) a b → Writes (44 ∷ []) b b'' → b' ≡ b'' → Writes (f x) b' c → Writes (begun (each f (xs ++ ((i, x) ∷ [])))) a c
   unfolding begun
-  begun_next {i = zero} h p s e q = absurd (omega arith)
-  begun_next {i = suc i} {c = c} h p s e q = rw add-one (both p (both s (subst (λ (w : Writer). Writes (f (suc i)) w c) e q)))
+  begun_next [] x n h p s e q = absurd (omega arith)
+  begun_next {c = c} (y ∷ xs) {i} x n h p s e q =
+      same_text
+      (append_assoc (f y.1) (added (each f xs)) (44 ∷ f x) ∙ ap (f y.1 ++◌) (sym (added_more (each f xs) (f x)) ∙ ap added (sym (each_more f xs (i, x)))))
+      (both p (both s (subst (λ (w : Writer). Writes (f x) w c) e q)))
 
-pub begun_all : {A : Type 0} (f : A → List ℕ) (n : ℕ) (g : ℕ → A) {i : ℕ} {s a b c : Writer} → Writes (91 ∷ []) s a → Writes (begun i (λ j. f (g j))) a b → Writes (93 ∷ []) b c → i ≡ n → Writes (array (map f (tabulate n g))) s c
-begun_all f n g p q r e = same_text (array_is n (λ j. f (g j)) ∙ sym (ap array (map-tabulate f n g))) (both p (both (rw (← e) q) r))
+  pub begun_all : {s a b c : Writer} (xs : List (ℕ × A)) (l : List A) → Writes (91 ∷ []) s a → Writes (begun (each f xs)) a b → Writes (93 ∷ []) b c → each f xs ≡ map f l → Writes (array (map f l)) s c
+  begun_all xs l p q r e = same_text (array_is (each f xs) ∙ ap array e) (both p (both q r))

@@ -1,5 +1,5 @@
 -- The pieces of a row, in the order in which they are written, are the row. Assumes nothing.
-use mathlib.Core.Path.{◌≡◌, refl, ap, ◌∙◌}
+use mathlib.Core.Path.{◌≡◌, refl}
 use mathlib.Core.Bool.{Bool, true, false}
 use mathlib.Core.List.{List, [], ◌∷◌, ◌++◌, append_assoc, append-nil}
 use Prim.Native.Nat.{ℕ, ◌≤◌, ◌<◌}
@@ -10,11 +10,7 @@ use Rattle.json_text.specs.Json.{decimal, following, array, quoted, kind_name, v
 use Rattle.json_text.specs.Writes.{Writes, added}
 use Rattle.json_text.specs.declared.writer.Writer.{Writer}
 use Rattle.json_text.proofs.Writing.{nothing}
-
-added_is : (l : List (List ℕ)) → added l ++ (93 ∷ []) ≡ following l
-unfolding added following
-added_is [] = refl
-added_is (w ∷ l) = ap (λ (x : List ℕ). 44 ∷ x) (append_assoc w (added l) (93 ∷ []) ∙ ap (λ (x : List ℕ). w ++ x) (added_is l))
+use Rattle.json_text.proofs.Arrays.{added_is}
 
 pub row_is : (n : Node) {w : List ℕ} → w ≡ kind_name n.kind
     → 91 ∷ 34 ∷ (w ++ (34 ∷ 44 ∷ (decimal n.start ++ (44 ∷ (decimal n.end ++ (44 ∷ (decimal n.children ++ (44 ∷ (value_text n.value ++ (added (sixth n.kind n.base) ++ (93 ∷ []))))))))))) ≡ row n

@@ -1,7 +1,8 @@
 // The names of the kinds of nodes.
 ghost use Rattle.std.specs.Prelude.{◌≡◌};
 ghost use Rattle.json_text.specs.Json.{kind_name};
-ghost use Rattle.json_text.specs.Names.{spelled_in};
+
+use patterns::spelled;
 
 // Each with its size. They are bytes and no references, since the archive has no memory that is set up when it is loaded.
 static NAMES: [(u8, [u8; 13]); 43] = [
@@ -50,20 +51,12 @@ static NAMES: [(u8, [u8; 13]); 43] = [
     (7, *b"UseList......"),
 ];
 
-// A name without what fills its row.
-fn spelled(row: &(u8, [u8; 13])) -> &[u8]
-    ensures { result.now ≡ spelled_in row.now.0 row.now.1 }
-{
-    let (size, name) = row;
-    &name[..(*size as usize).min(name.len())]
-}
-
 // Empty for a number that is no kind.
 pub(crate) fn name_of(kind: u8) -> &'static [u8]
     ensures { result.now ≡ kind_name kind }
 {
-    if kind > 42 {
-        return b"";
+    match NAMES.get(kind as usize) {
+        Some(row) => spelled(row),
+        None => b"",
     }
-    spelled(&NAMES[kind as usize])
 }

@@ -1,12 +1,14 @@
 // The rows of nodes and of diagnostics.
-ghost use Rattle.std.specs.Prelude.{◌≡◌, ◌∷◌, List, ℕ, ◌/◌, length, map};
+ghost use Rattle.std.specs.Prelude.{◌≡◌, ◌∷◌, List, ℕ, map};
 ghost use Rattle.patterns.specs.Bytes.{within};
-ghost use Rattle.tables.specs.Tables.{entry_at, tabulate};
+ghost use Rattle.tables.specs.Left.{entries_of};
+ghost use Rattle.grammar.specs.Kinds.{Count, LiteralU32};
 ghost use Rattle.json_text.specs.Json.{decimal, value_text, sixth, array, row, diagnostic_row};
 ghost use Rattle.json_text.specs.Writes.{Writes, added};
 
 use crate::names::name_of;
 use crate::writer::Writer;
+use grammar::node_kind::NodeKind;
 use tables::{Diagnostic, Entry, Node};
 
 // The last before 64-bit floats skip numbers.
@@ -16,25 +18,23 @@ const MAX_SAFE_INTEGER: u64 = 9007199254740991;
 pub trait Row: Entry {
     ghost text: { Self → List ℕ };
 
-    // Writes the row of entry i.
-    fn write(table: &[u8], i: usize, writer: &mut Writer<'_>)
-        ensures { Writes (text (Self.decode (entry_at Self.SIZE table.now i))) writer.old writer.new };
+    fn write(self, writer: &mut Writer<'_>)
+        ensures { Writes (text self) writer.old writer.new };
 }
 
 impl Row for Node {
     ghost text = { row };
 
-    fn write(table: &[u8], i: usize, writer: &mut Writer<'_>) {
-        let node = Node::at(table, i);
+    fn write(self, writer: &mut Writer<'_>) {
         writer.put(b"[\"");
-        writer.put(name_of(node.kind));
+        writer.put(name_of(self.kind));
         writer.put(b"\"");
-        writer.next(node.start as u64);
-        writer.next(node.end as u64);
-        writer.next(node.children as u64);
+        writer.next(self.start as u64);
+        writer.next(self.end as u64);
+        writer.next(self.children as u64);
         writer.put(b",");
-        writer.value(node.value);
-        writer.base(node.kind, node.base);
+        writer.value(self.value);
+        writer.base(self.kind, self.base);
         writer.put(b"]");
     }
 }
@@ -42,34 +42,34 @@ impl Row for Node {
 impl Row for Diagnostic {
     ghost text = { diagnostic_row };
 
-    fn write(table: &[u8], i: usize, writer: &mut Writer<'_>) {
-        let diagnostic = Diagnostic::at(table, i);
+    fn write(self, writer: &mut Writer<'_>) {
+        let Diagnostic { start, end, reason } = self;
         writer.put(b"[");
-        writer.number(diagnostic.start as u64);
-        writer.next(diagnostic.end as u64);
-        writer.next(diagnostic.reason as u64);
+        writer.number(start as u64);
+        writer.next(end as u64);
+        writer.next(reason as u64);
         writer.put(b"]");
     }
 }
 
 // On Count and the three literals alone.
 fn has_base(kind: u8) -> bool
-    ensures { result ≡ within 6 9 kind }
+    ensures { result ≡ within Count LiteralU32 kind }
 {
-    (6..=9).contains(&kind)
+    (NodeKind::Count as u8..=NodeKind::LiteralU32 as u8).contains(&kind)
 }
 
 impl Writer<'_> {
     // The rows of all entries of a table, in an array.
     pub fn rows<R: Row>(&mut self, table: &[u8])
-        ensures { Writes (array (map R.text (tabulate (length table.now / R.SIZE) (λ i. R.decode (entry_at R.SIZE table.now i))))) self.old self.new }
+        ensures { Writes (array (map R.text (entries_of R.SIZE R.decode table.now))) self.old self.new }
     {
         self.put(b"[");
-        for i in 0..R::room(table) {
+        for (i, entry) in R::entries(table).enumerate() {
             if i > 0 {
                 self.put(b",");
             }
-            R::write(table, i, self);
+            entry.write(self);
         }
         self.put(b"]");
     }

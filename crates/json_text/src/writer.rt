@@ -53,6 +53,7 @@ fn copied(out: &mut [u8], at: usize, w: &[u8]) -> Option<usize>
     requires { at ≤ length out.old }
     ensures { MatchOption result (PastEnd out.old at w.now × (out.new ≡ out.old)) (λ end. Copied at w.now end out.old out.new) }
 {
+    // The library's `get_mut` of a range says nothing of what the whole ends as.
     if out.len() - at < w.len() {
         return None;
     }

@@ -3,12 +3,11 @@ use mathlib.Core.Path.{◌≡◌, refl, sym, ap, subst, ◌∙◌}
 use mathlib.Core.List.{List, [], ◌∷◌}
 use Prim.Native.Nat.{ℕ, ◌/◌, ◌≤◌, ◌<◌}
 use native.Mathlib.Omega.{arith}
-use lib.ListN.{length}
+use lib.ListN.{length, replicate}
 use borrow.Author.Tests.{lt-ltb}
 use Rattle.std.specs.Prelude.{Result, Ok, Err}
-use Rattle.tables.specs.Tables.{Token, Diagnostic, cleared}
+use Rattle.tables.specs.Tables.{Token, Diagnostic}
 use Rattle.tables.specs.Suffix.{unknown_numerals}
-use Rattle.tables.proofs.Laws.{cleared_all}
 use Rattle.lexer.specs.Answers.{Lexemes, lexed, lexed_of, LexedIs, answer_of, AnswerIs, zeros}
 use Rattle.lexer.specs.declared.lexing.Lexed.{Lexed}
 use Rattle.lexer.specs.declared.lexing.TextError.{TextError}
@@ -43,23 +42,23 @@ module _ {text : List ℕ} {n m : ℕ} {a b : List ℕ} {r : Result Lexed TextEr
     v : Done l w.result
     v = is_done l w.result (sym e ∙ w.answer)
 
-    pub alone_lexical : {a' : List ℕ} → 0 < l.diagnostics → a' ≡ cleared 0 a → length a ≡ n → AnswerIs text n m a' b (Err (LexError.Lexical (l.diagnostics)))
+    pub alone_lexical : {a' : List ℕ} → 0 < l.diagnostics → a' ≡ replicate (length a) 0 → length a ≡ n → AnswerIs text n m a' b (Err (LexError.Lexical (l.diagnostics)))
     alone_lexical h p q =
         record {
           result = w.result;
           is = w.is;
           answer = ap (λ (d : ℕ). Err (LexError.Lexical d)) v.d_is ∙ lexical_of n v.ts v.ds (omega (arith, v.d_is)) ∙ ap (answer_of n) (sym v.x_is);
-          tokens = p ∙ cleared_all a ∙ ap zeros q;
+          tokens = p ∙ ap zeros q;
           diagnostics = w.diagnostics;
         }
 
-    pub alone_room : {a' : List ℕ} {i : ℕ} → l.diagnostics ≤ 0 → i ≡ length a / 16 → i < l.tokens → a' ≡ cleared 0 a → length a ≡ n → AnswerIs text n m a' b (Err (LexError.TokenRoom (l.tokens)))
+    pub alone_room : {a' : List ℕ} {i : ℕ} → l.diagnostics ≤ 0 → i ≡ length a / 16 → i < l.tokens → a' ≡ replicate (length a) 0 → length a ≡ n → AnswerIs text n m a' b (Err (LexError.TokenRoom (l.tokens)))
     alone_room h q k p z =
         let f : n / 16 < length v.ts = subst (λ (i : ℕ). n / 16 < i) v.t_is (rw (q, z) at k) in
         record {
           result = w.result;
           is = w.is;
           answer = ap (λ (t : ℕ). Err (LexError.TokenRoom t)) v.t_is ∙ room_of n v.ts v.ds (omega (arith, v.d_is)) f ∙ ap (answer_of n) (sym v.x_is);
-          tokens = p ∙ cleared_all a ∙ ap zeros z;
+          tokens = p ∙ ap zeros z;
           diagnostics = w.diagnostics;
         }

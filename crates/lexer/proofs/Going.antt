@@ -17,11 +17,12 @@ use Rattle.patterns.specs.Bytes.{in_set, white, run}
 use Rattle.patterns.proofs.Runs.{run_within}
 use Rattle.utf8.specs.Utf8.{Rest}
 use Rattle.utf8.proofs.Laws.{begins_some, rest_none, rest_char, rest_more, rest_end, next_ascii}
-use Rattle.numeral.specs.Numeral.{numeral_of}
+use Rattle.numeral.specs.Entry.{reason_of}
+use Rattle.numeral.specs.Numeral.{base_code, numeral_of}
 use Rattle.numeral.specs.declared.NumberLiteral.{NumberLiteral}
 use Rattle.numeral.specs.declared.NumberParseError.{NumberParseError}
 use Rattle.lexer.specs.Classes.{class_of}
-use Rattle.lexer.specs.Lexes.{Item, skipped, token, item_of, Step, matched, strange, tokens, errors, Lexes, done, step}
+use Rattle.lexer.specs.Lexes.{Item, skipped, token, error, item_of, Step, matched, strange, tokens, errors, Lexes, done, step}
 use Rattle.lexer.specs.Answers.{lexed, ResultIs, too_long, not_utf8, lexes, LexedIs, zeros}
 use Rattle.lexer.specs.Scans.{Scanned, Reaches, Stepped, Refused}
 use Rattle.lexer.specs.declared.scan.Found.{Found}
@@ -61,6 +62,11 @@ end_within text at {s} {f} h e i g q = omega (arith, size_within f i, ap size_of
 -- what was found is f, here g
 found_at : {s : List ℕ} {f g : Found} → Scanned s (Ok f) → f ≡ g → Scanned s (Ok g)
 found_at {s} i q = subst (λ (f : Found). Scanned s (Ok f)) q i
+
+-- a numeral that says no number
+error_is : (g : NumberParseError) → item_of 1 (Err g) ≡ error (reason_code (reason_of g))
+error_is NumberParseError.Overflow = refl
+error_is NumberParseError.InvalidFormat = refl
 
 module _ {text s : List ℕ} {at : ℕ} (h : at ≤ length text) (e : s ≡ drop at text) where
   reaches : {n : ℕ} {j : Item} → Step s n j → Rest s n → Reaches text at n j
@@ -108,11 +114,8 @@ module _ {text s : List ℕ} {at : ℕ} (h : at ≤ length text) (e : s ≡ drop
     pub literal_step : {l : NumberLiteral} → a ≡ Ok l → Stepped text at (Ok (Item.Literal l, n))
     literal_step w = Stepped.literal (number_step _ (ap (item_of 1) w))
 
-    pub overflow_step : {g : NumberParseError} → a ≡ Err g → g ≡ NumberParseError.Overflow → Stepped text at (Ok (Item.Error Reason.Overflow, n))
-    overflow_step w z = Stepped.error (number_step _ (ap (item_of 1) (w ∙ ap (λ (g : NumberParseError). Err g) z)))
-
-    pub format_step : {g : NumberParseError} → a ≡ Err g → g ≡ NumberParseError.InvalidFormat → Stepped text at (Ok (Item.Error Reason.Format, n))
-    format_step w z = Stepped.error (number_step _ (ap (item_of 1) (w ∙ ap (λ (g : NumberParseError). Err g) z)))
+    pub error_step : {g : NumberParseError} {r : Reason} → a ≡ Err g → r ≡ reason_of g → Stepped text at (Ok (Item.Error r, n))
+    error_step {g} {r} w z = subst (λ (q : Reason). Stepped text at (Ok (Item.Error q, n))) (sym z) (Stepped.error (number_step _ (ap (item_of 1) w ∙ error_is g)))
 
 -- ---- white space, byte by byte: a way from the byte after one is a way from that byte, since the longest run is one step
 white_step : (s : List ℕ) → 1 ≤ length s → in_set white (get_or s 0 0) ≡ true → Step s (run (in_set white) s) skipped
@@ -292,22 +295,22 @@ module _ {text a₀ b₀ : List ℕ} where
               subst (λ (q : List Token). Lexes 0 text q (g.ds ++ gs)) (sym (append_assoc g.ts (t ∷ []) us)) (g.goes_on (t ∷ us) gs (lexes_on r us gs l));
         }
 
-    pub going_token : {a' : List ℕ} {j : declared.Item} {n k : ℕ} → Stepped text at (Ok (j, n)) → j ≡ Item.Token k
-        → a' ≡ stored 16 a nt (encode_token (record { kind = k; suffix = 0; start = at; end = at + n; base = 0; value = 0 })) → Going text a₀ b₀ a' b (at + n) (nt + 1) nu nd
-    going_token {a'} {j} {n} {k} w q f = go (step_at w q)
+    pub going_token : {a' : List ℕ} {j : declared.Item} {n k x c v : ℕ} → Stepped text at (Ok (j, n)) → j ≡ Item.Token k
+        → a' ≡ stored 16 a nt (encode_token (record { kind = k; suffix = x; start = at; end = at + n; base = c; value = v })) → x ≡ 0 → c ≡ 0 → v ≡ 0 → Going text a₀ b₀ a' b (at + n) (nt + 1) nu nd
+    going_token {a'} {j} {n} {k} w q f x y z = go (step_at w q) (rw (x, y, z) at f)
       where
         none : (c : Bool) → nu ≡ nu + cond (c && false) 1 0
         none true = omega arith
         none false = omega arith
 
-        go : Stepped text at (Ok (Item.Token k, n)) → Going text a₀ b₀ a' b (at + n) (nt + 1) nu nd
-        go (Stepped.token r) = going_more r (none (eqb k 1)) f
+        go : Stepped text at (Ok (Item.Token k, n)) → a' ≡ stored 16 a nt (encode_token (record { kind = k; suffix = 0; start = at; end = at + n; base = 0; value = 0 })) → Going text a₀ b₀ a' b (at + n) (nt + 1) nu nd
+        go (Stepped.token r) f = going_more r (none (eqb k 1)) f
 
-    pub going_literal : {a' : List ℕ} {j : declared.Item} {n x o : ℕ} {l : NumberLiteral} → Stepped text at (Ok (j, n)) → j ≡ Item.Literal l → x ≡ suffix_code l.suffix → o ≡ bool_byte (sameb suffixes l.suffix Suffix.Other)
-        → a' ≡ stored 16 a nt (encode_token (record { kind = 1; suffix = x; start = at; end = at + n; base = l.base; value = l.value })) → Going text a₀ b₀ a' b (at + n) (nt + 1) (nu + o) nd
-    going_literal {a'} {j} {n} {x} {o} {l} w q z u f = go (step_at w q) (rw z at f)
+    pub going_literal : {a' : List ℕ} {j : declared.Item} {n x o c : ℕ} {l : NumberLiteral} → Stepped text at (Ok (j, n)) → j ≡ Item.Literal l
+        → a' ≡ stored 16 a nt (encode_token (record { kind = 1; suffix = x; start = at; end = at + n; base = c; value = l.value })) → x ≡ suffix_code l.suffix → c ≡ base_code l.base → o ≡ bool_byte (sameb suffixes l.suffix Suffix.Other) → Going text a₀ b₀ a' b (at + n) (nt + 1) (nu + o) nd
+    going_literal {a'} {j} {n} {x} {o} {c} {l} w q f z y u = go (step_at w q) (rw (z, y) at f)
       where
-        go : Stepped text at (Ok (Item.Literal l, n)) → a' ≡ stored 16 a nt (encode_token (record { kind = 1; suffix = suffix_code l.suffix; start = at; end = at + n; base = l.base; value = l.value }))
+        go : Stepped text at (Ok (Item.Literal l, n)) → a' ≡ stored 16 a nt (encode_token (record { kind = 1; suffix = suffix_code l.suffix; start = at; end = at + n; base = base_code l.base; value = l.value }))
             → Going text a₀ b₀ a' b (at + n) (nt + 1) (nu + o) nd
         go (Stepped.literal r) f = going_more r (ap (nu +◌) (u ∙ other_is l.suffix)) f
 

@@ -5,3 +5,4 @@ pub mod Scans
 pub mod Determined
 pub mod Going
 pub mod Entries
+pub mod Chunks

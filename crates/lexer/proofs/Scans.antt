@@ -2,15 +2,17 @@
 use mathlib.Core.Path.{◌≡◌, refl, sym, ap, subst, ◌∙◌}
 use mathlib.Core.Bool.{Bool, true, false, cond, not, ◌&&◌, false≢true}
 use mathlib.Core.Logic.{⊎_elim}
-use mathlib.Core.List.{List, [], ◌∷◌}
+use mathlib.Core.List.{List, [], ◌∷◌, ◌++◌}
 use Rattle.std.specs.Prelude.{Option, Some, None, unwrap_or, Result, Ok, Err, IsErr}
-use Rattle.std.specs.List.{fold}
-use Prim.Native.Nat.{ℕ, zero, suc, ◌+◌, ◌≤◌, ◌<◌}
+use Rattle.std.specs.List.{fold, prefix_len}
+use Rattle.std.specs.Simd.{first_chunks}
+use Rattle.std.proofs.lemmas.List.{take-append-drop}
+use Prim.Native.Nat.{ℕ, zero, suc, ◌+◌, ◌*◌, ◌≤◌, ◌<◌}
 use native.Mathlib.Nat.{add-zero}
 use native.Mathlib.Omega.{arith}
 use lib.Dec.{T, leb, ltb, eqb, leb→le}
 use lib.ListN.{length, take, drop, get_or, length-take, length-drop, get_or-eq_default, get_or-append, length-append}
-use lib.Seq.{get_or-drop, take_all}
+use lib.Seq.{get_or-drop, take_all, drop-drop}
 use borrow.Author.Tests.{eq-eqb, lt-ltb, ltb-true}
 use Rattle.patterns.specs.Bytes.{within, Set, in_set, white, word, run}
 use Rattle.patterns.specs.Patterns.{All}
@@ -108,6 +110,18 @@ module _ {t : List ℕ} where
       (λ j k.
       let u : get_or t (i + j) 0 ≡ get_or x j 0 = sym (get_or-drop i t j 0) ∙ ap (λ (l : List ℕ). get_or l j 0) (sym p.front) ∙ get_or-append x r 0 j (omega (arith, p.size)) in
       rw u (plain_at x e j (omega (arith, p.size))))
+
+  -- through the first chunks of sixteen, as far as they are plain
+  pub line_sixteens : (k : ℕ) (l : List ℕ) {i : ℕ} → Line t i → l ≡ drop i t → k * 16 ≤ length l → Line t (i + prefix_len all_plain (first_chunks 16 k l) * 16)
+  line_sixteens zero l {i} g e h = subst (Line t) (omega arith) g
+  line_sixteens (suc k) l {i} g e h = go (all_plain (take 16 l)) refl (λ m. line_sixteens k (drop 16 l) m p.left (omega (arith, length-drop 16 l)))
+    where
+      p : Piece t i 16 (take 16 l) (drop 16 l)
+      p = record { front = take-append-drop 16 l ∙ e; size = omega (arith, length-take 16 l); left = ap (drop 16) e ∙ drop-drop 16 i t }
+
+      go : (c : Bool) → all_plain (take 16 l) ≡ c → (Line t (i + 16) → Line t (i + 16 + prefix_len all_plain (first_chunks 16 k (drop 16 l)) * 16)) → Line t (i + cond c (1 + prefix_len all_plain (first_chunks 16 k (drop 16 l))) 0 * 16)
+      go true x f = subst (Line t) (omega arith) (f (line_plain g p x))
+      go false x f = subst (Line t) (omega arith) g
 
   pub line_char : {i n : ℕ} → Line t i → i < length t → 0x80 ≤ get_or t i 0 → {s : List ℕ} {r : Option ℕ} → FirstChar s r → s ≡ drop i t → r ≡ Some n → Line t (i + n)
   line_char {i} {n} g h a {s} f r z = go (subst (FirstChar s) z f)
@@ -253,6 +267,13 @@ module _ {s : List ℕ} {c : ℕ} (m : Marked s c) where
 
   pub found_slash : c ≡ 36 → (get_or s 1 0 ≡ 47 → ⊥) → Scanned s (Ok (Found.Token c 1))
   found_slash q n = single (λ p. n) (λ j a b e. (next_is j (get_or s 0 0) (get_or s 1 0) b e).2 (mark_of.3 (sym m.begun.class_is ∙ q)))
+
+  -- what stands in the table of marks by the first one's kind
+  pub kind_marks : (21 ≤ c) × (c ≤ 50)
+  kind_marks = let k = mark_of in (omega (arith, k.0, m.begun.class_is), omega (arith, k.1, m.begun.class_is))
+
+  pub by_bytes : {d : ℕ} {r : Option ℕ} → KindIs 21 50 (fixed_of c ++ d ∷ []) r → KindIs 21 50 (get_or s 0 0 ∷ d ∷ []) r
+  by_bytes {d} {r} = subst (λ (w : List ℕ). KindIs 21 50 (w ++ d ∷ []) r) (ap fixed_of m.begun.class_is ∙ sym mark_of.2)
 
   pub found_single : {r : Option ℕ} → (c ≡ 36 → ⊥) → KindIs 21 50 (get_or s 0 0 ∷ get_or s 1 0 ∷ []) r → r ≡ None → Scanned s (Ok (Found.Token c 1))
   found_single {r} n i z = go (subst (KindIs 21 50 (get_or s 0 0 ∷ get_or s 1 0 ∷ [])) z i)

@@ -1,17 +1,21 @@
 -- The kinds' fixed texts and the bytes' classes: each law is one test that antt computes at all kinds or at all bytes. Assumes nothing.
 use mathlib.Core.Path.{◌≡◌, refl, sym, ap, subst, ◌∙◌}
 use mathlib.Core.Bool.{Bool, true, false, ◌&&◌, ◌||◌, not, beq, false≢true}
-use mathlib.Core.Logic.{⊎_elim}
-use mathlib.Core.List.{List, [], ◌∷◌}
-use Rattle.std.specs.Prelude.{Some, None}
-use Prim.Native.Nat.{ℕ, ◌+◌, ◌*◌, ◌-◌, ◌≤◌, ◌<◌}
+use mathlib.Core.Logic.{◌⊎◌, inl, inr, ⊎_elim}
+use mathlib.Core.List.{List, [], ◌∷◌, ◌++◌}
+use Rattle.std.specs.Prelude.{Option, Some, None}
+use Rattle.std.specs.Bool.{then_some}
+use Rattle.std.proofs.lemmas.List.{get_or_default}
+use Prim.Native.Nat.{ℕ, ◌-◌, ◌≤◌, ◌<◌, min}
 use Prim.Native.String.{String}
 use native.Mathlib.Omega.{arith}
 use native.Mathlib.Decide.{dec_lt}
 use lib.Dec.{T, leb, ltb, eqb, le→leb, leb→le, eqb→eq, T_not}
-use lib.ListN.{length, take, drop, get_or, get_or-eq_default}
-use lib.Seq.{take_all}
-use borrow.Author.Tests.{eqb-true, eq-eqb, ne_eqb, lt-ltb}
+use lib.ListN.{length, take, get_or, get_or-eq_default}
+use lib.Seq.{take_all, get_or-append_seam}
+use lib.Pointwise.{pointwise, bytes_decides}
+use Rattle.std.proofs.Common.{slice_index_or}
+use borrow.Author.Tests.{eqb-true, eqb-false, eq-eqb, ne_eqb, lt-ltb}
 use Rattle.patterns.specs.Bytes.{bytes, within, same, starts, Set, in_set, white, letter, digit, word, run}
 use Rattle.patterns.specs.Patterns.{All}
 use Rattle.patterns.proofs.Tests.{T_of, of_T, and_l, and_r, and_t, or_cases, implies, modus}
@@ -20,7 +24,7 @@ use Rattle.patterns.proofs.Runs.{run_all}
 use Rattle.patterns.proofs.Words.{same_is, same_self}
 use Rattle.tables.specs.TokenKinds.{LPAREN, SEMI}
 use Rattle.lexer.specs.Kinds.{texts, fixed_of}
-use Rattle.lexer.specs.Classes.{kind_from, next_of, pair_of, class_of, Table, key_of, KeyTable, KindIs, kind, no_kind}
+use Rattle.lexer.specs.Classes.{kind_from, next_of, pair_of, class_of, key_of, KindIs, kind, no_kind}
 
 -- ---- kinds
 pub kind_law : (f : ℕ → Bool) → T (below 51 f) → (k : ℕ) → k < 51 → T (f k)
@@ -131,62 +135,114 @@ unfolding class_of next_of
 lone_next b h e = eqb→eq _ 0 (modus (within LPAREN SEMI (class_of b)) _ (byte_law (λ b. implies (within LPAREN SEMI (class_of b)) (eqb (next_of b) 0)) tt b h) (T_of e))
 
 -- ---- keys
-abbrev pub keyed : List ℕ → ℕ → Bool
-keyed l j =
-    implies (within 2 19 j)
-    (eqb (get_or l (key_of (fixed_of j)) 0) j && (leb (get_or l (j * 9 + 256 + 8) 0) 8 && same (fixed_of j) (take (get_or l (j * 9 + 256 + 8) 0) (drop (j * 9 + 256) l))))
+-- a keyword without what fills its row
+abbrev pub spelled : ℕ × List ℕ → List ℕ
+spelled r = take (min r.0 (length r.1)) r.1
 
-pub key_table : (l : List ℕ) → length l ≡ 436 → T (below 256 (λ b. eqb (get_or l b 0) 0 || within 2 19 (get_or l b 0))) → T (below 51 (keyed l)) → KeyTable l
-key_table l n u t =
+-- the keys have the kind of each keyword at its key, and no other kind; the rows have each keyword, and nothing at 0
+pub record KeyTable (keys : List ℕ) (rows : List (ℕ × List ℕ)) : Type 0 where
+  pub kind : (b : ℕ) → b < 256 → (get_or keys b 0 ≡ 0) ⊎ (2 ≤ get_or keys b 0) × (get_or keys b 0 ≤ 19)
+  pub some : (j : ℕ) → 2 ≤ j → j ≤ 19 → get_or keys (key_of (fixed_of j)) 0 ≡ j
+  pub text : (j : ℕ) → 2 ≤ j → j ≤ 19 → spelled (get_or rows j (0, [])) ≡ fixed_of j
+  pub none : spelled (get_or rows 0 (0, [])) ≡ []
+  pub size : length rows ≡ 20
+
+abbrev pub keyed : List ℕ → List (ℕ × List ℕ) → ℕ → Bool
+keyed keys rows j = implies (within 2 19 j) (eqb (get_or keys (key_of (fixed_of j)) 0) j && same (fixed_of j) (spelled (get_or rows j (0, []))))
+
+pub key_table : (keys : List ℕ) (rows : List (ℕ × List ℕ)) → length rows ≡ 20 → spelled (get_or rows 0 (0, [])) ≡ [] → T (below 256 (λ b. eqb (get_or keys b 0) 0 || within 2 19 (get_or keys b 0))) → T (below 51 (keyed keys rows)) → KeyTable keys rows
+key_table keys rows n o u t =
     record {
+      kind = λ b h. ⊎_elim (λ q. inl (eqb-true _ 0 q)) (λ q. inr (within_is 2 19 _ (T_of q))) (or_cases (eqb (get_or keys b 0) 0) _ (of_T _ (byte_law (λ b. eqb (get_or keys b 0) 0 || within 2 19 (get_or keys b 0)) u b h)));
+      some = λ j a b. eqb→eq _ j (and_l (eqb (get_or keys (key_of (fixed_of j)) 0) j) _ (law j a b));
+      text = λ j a b. same_is (fixed_of j) _ (of_T _ (and_r (eqb (get_or keys (key_of (fixed_of j)) 0) j) _ (law j a b)));
+      none = o;
       size = n;
-      kind = λ b h z. within_is 2 19 _ (⊎_elim (λ q. absurd (z (eqb-true _ 0 q))) T_of (or_cases (eqb (get_or l b 0) 0) _ (of_T _ (byte_law (λ b. eqb (get_or l b 0) 0 || within 2 19 (get_or l b 0)) u b h))));
-      some = λ j a b. eqb→eq _ j (and_l (eqb (get_or l (key_of (fixed_of j)) 0) j) _ (law j a b));
-      short = λ j a b. leb→le _ 8 (and_l (leb (get_or l (j * 9 + 256 + 8) 0) 8) _ (and_r (eqb (get_or l (key_of (fixed_of j)) 0) j) _ (law j a b)));
-      text = λ j a b. same_is (fixed_of j) _ (of_T _ (and_r (leb (get_or l (j * 9 + 256 + 8) 0) 8) _ (and_r (eqb (get_or l (key_of (fixed_of j)) 0) j) _ (law j a b))));
     }
   where
-    law : (j : ℕ) → 2 ≤ j → j ≤ 19 → T (eqb (get_or l (key_of (fixed_of j)) 0) j && (leb (get_or l (j * 9 + 256 + 8) 0) 8 && same (fixed_of j) (take (get_or l (j * 9 + 256 + 8) 0) (drop (j * 9 + 256) l))))
-    law j a b = modus (within 2 19 j) _ (kind_law (keyed l) t j (omega arith)) (within_of 2 19 j a b)
+    law : (j : ℕ) → 2 ≤ j → j ≤ 19 → T (eqb (get_or keys (key_of (fixed_of j)) 0) j && same (fixed_of j) (spelled (get_or rows j (0, []))))
+    law j a b = modus (within 2 19 j) _ (kind_law (keyed keys rows) t j (omega arith)) (within_of 2 19 j a b)
 
--- the bytes that the table has for the kind at a key are the keyword's
-spelt : (l : List ℕ) → KeyTable l → (b : ℕ) → b < 256 → (get_or l b 0 ≡ 0 → ⊥)
-    → take ((get_or l b 0 * 9 + 256 + get_or l (get_or l b 0 * 9 + 256 + 8) 0) - (get_or l b 0 * 9 + 256)) (drop (get_or l b 0 * 9 + 256) l) ≡ fixed_of (get_or l b 0)
-spelt l t b h z =
-    let k = get_or l b 0 in
-    let g = t.kind b h z in
-    let e : (k * 9 + 256 + get_or l (k * 9 + 256 + 8) 0) - (k * 9 + 256) ≡ get_or l (k * 9 + 256 + 8) 0 = omega arith in
-    ap (λ (m : ℕ). take m (drop (k * 9 + 256) l)) e ∙ t.text k g.0 g.1
+module _ {keys : List ℕ} {rows : List (ℕ × List ℕ)} (t : KeyTable keys rows) {b : ℕ} (h : b < 256) where
+  pub key_within : get_or keys b 0 < 20
+  key_within = ⊎_elim (λ z. omega arith) (λ g. omega (arith, g.1)) (t.kind b h)
 
--- how far a look into the table goes from the key b
-pub record KeyWithin (l : List ℕ) (b : ℕ) : Type 0 where
-  pub kind : get_or l b 0 ≤ 19
-  pub short : get_or l (get_or l b 0 * 9 + 256 + 8) 0 ≤ 8
-  pub size : length l ≡ 436
+  pub no_key : {w : List ℕ} → b ≡ key_of w → get_or keys b 0 ≡ 0 → KindIs 2 19 w None
+  no_key q z = no_kind (λ j a c f. omega (arith, z, ap (λ (i : ℕ). get_or keys i 0) (q ∙ ap key_of f), t.some j a c))
 
-pub key_within : {l : List ℕ} {b : ℕ} → KeyTable l → b < 256 → (get_or l b 0 ≡ 0 → ⊥) → KeyWithin l b
-key_within {l} {b} t h z = let g = t.kind b h z in record { kind = g.1; short = t.short (get_or l b 0) g.0 g.1; size = t.size }
+  -- the row at a key, whatever is read past the rows
+  row : (d : ℕ × List ℕ) → slice_index_or rows (get_or keys b 0) d ≡ get_or rows (get_or keys b 0) (0, [])
+  row d = get_or_default rows (get_or keys b 0) d (0, []) (omega (arith, key_within, t.size))
 
-module _ {w l : List ℕ} (t : KeyTable l) (b : ℕ) (q : b ≡ key_of w) where
-  only : (j : ℕ) → 2 ≤ j → j ≤ 19 → w ≡ fixed_of j → get_or l b 0 ≡ j
-  only j a c e = ap (λ (i : ℕ). get_or l i 0) (q ∙ ap key_of e) ∙ t.some j a c
-
-  pub no_key : get_or l b 0 ≡ 0 → KindIs 2 19 w None
-  no_key z = no_kind (λ j a c e. omega (arith, only j a c e))
-
-  module _ (h : b < 256) (z : get_or l b 0 ≡ 0 → ⊥) {r : Bool}
-      (s : r ≡ same (take ((get_or l b 0 * 9 + 256 + get_or l (get_or l b 0 * 9 + 256 + 8) 0) - (get_or l b 0 * 9 + 256)) (drop (get_or l b 0 * 9 + 256) l)) w) where
-    pub a_keyword : r ≡ true → KindIs 2 19 w (Some (get_or l b 0))
-    a_keyword x = let g = t.kind b h z in kind g.0 g.1 (same_is _ w (sym (s ∙ ap (λ (v : List ℕ). same v w) (spelt l t b h z)) ∙ x))
+  module _ {w v : List ℕ} (d : ℕ × List ℕ) {r : Bool} (n : 2 ≤ length w) (q : b ≡ key_of w) (s : v ≡ spelled (slice_index_or rows (get_or keys b 0) d)) (e : r ≡ pointwise eqb w v) where
+    pub a_keyword : r ≡ true → KindIs 2 19 w (Some (get_or keys b 0))
+    a_keyword x =
+        let f : w ≡ spelled (get_or rows (get_or keys b 0) (0, [])) = (bytes_decides w v).0 (sym e ∙ x) ∙ s ∙ ap spelled (row d) in
+        ⊎_elim
+        (λ z. absurd (omega (arith, ap length f, ap length (ap (λ (k : ℕ). spelled (get_or rows k (0, []))) z ∙ t.none))))
+        (λ g. kind g.0 g.1 (f ∙ t.text _ g.0 g.1)) (t.kind b h)
 
     pub no_keyword : r ≡ false → KindIs 2 19 w None
     no_keyword x =
         no_kind
-        (λ j c d e. false≢true (sym x ∙ s ∙ ap (λ (v : List ℕ). same v w) (spelt l t b h z ∙ ap fixed_of (only j c d e) ∙ sym e) ∙ same_self w))
+        (λ j a c f.
+        let k : get_or keys b 0 ≡ j = ap (λ (i : ℕ). get_or keys i 0) (q ∙ ap key_of f) ∙ t.some j a c in
+        false≢true (sym x ∙ e ∙ (bytes_decides w v).1 (f ∙ sym (s ∙ ap spelled (row d) ∙ ap (λ (i : ℕ). spelled (get_or rows i (0, []))) k ∙ t.text j a c))))
+
+-- ---- marks of two bytes, in rows by the first mark's kind, from 21 on
+-- a row has a mark that begins so, and no row lacks one
+abbrev pub a_mark : ℕ → ℕ × ℕ → Bool
+a_mark k p = implies (leb 1 p.1) (within 21 50 p.1 && same (fixed_of p.1) (fixed_of k ++ p.0 ∷ []))
+
+abbrev pub marked : List (ℕ × ℕ) → ℕ → ℕ → Bool
+marked rows k j =
+    let d = get_or (fixed_of j) (length (fixed_of k)) 0 in
+    let p = get_or rows (k - 21) (0, 0) in
+    implies (within 21 50 k && within 21 50 j) (implies (same (fixed_of j) (fixed_of k ++ d ∷ [])) (eqb p.0 d && eqb p.1 j))
+
+pub record MarkTable (rows : List (ℕ × ℕ)) : Type 0 where
+  pub right : T (below 51 (λ k. implies (within 21 50 k) (a_mark k (get_or rows (k - 21) (0, 0)))))
+  pub whole : T (below 51 (λ k. below 51 (marked rows k)))
+  pub size : length rows ≡ 30
+
+module _ {rows : List (ℕ × ℕ)} (t : MarkTable rows) (k d : ℕ) (e : ℕ × ℕ) (a : 21 ≤ k) (b : k ≤ 50) where
+  abbrev pub its_row : ℕ × ℕ
+  its_row = slice_index_or rows (k - 21) e
+
+  row_is : its_row ≡ get_or rows (k - 21) (0, 0)
+  row_is = get_or_default rows (k - 21) e (0, 0) (omega (arith, t.size))
+
+  mark_found : its_row.0 ≡ d → (its_row.1 ≡ 0 → ⊥) → KindIs 21 50 (fixed_of k ++ d ∷ []) (Some its_row.1)
+  mark_found q z =
+      let p = its_row in
+      let u = subst (λ (x : ℕ × ℕ). T (a_mark k x)) (sym row_is) (modus (within 21 50 k) _ (kind_law (λ k. implies (within 21 50 k) (a_mark k (get_or rows (k - 21) (0, 0)))) t.right k (omega arith)) (within_of 21 50 k a b)) in
+      let m = modus (leb 1 p.1) _ u (le→leb 1 p.1 (omega arith)) in
+      let r = within_is 21 50 p.1 (and_l (within 21 50 p.1) _ m) in
+      kind r.0 r.1 (ap (λ (x : ℕ). fixed_of k ++ x ∷ []) (sym q) ∙ same_is _ _ (of_T _ (and_r (within 21 50 p.1) _ m)))
+
+  mark_missed : (its_row.0 ≡ d → 21 ≤ its_row.1 → ⊥) → KindIs 21 50 (fixed_of k ++ d ∷ []) None
+  mark_missed g =
+      no_kind
+      (λ j c h q.
+      let x : get_or (fixed_of j) (length (fixed_of k)) 0 ≡ d = ap (λ (w : List ℕ). get_or w (length (fixed_of k)) 0) (sym q) ∙ get_or-append_seam (fixed_of k) d [] 0 in
+      let s : same (fixed_of j) (fixed_of k ++ get_or (fixed_of j) (length (fixed_of k)) 0 ∷ []) ≡ true = ap (λ (y : ℕ). same (fixed_of j) (fixed_of k ++ y ∷ [])) x ∙ ap (same (fixed_of j)) q ∙ same_self (fixed_of j) in
+      let m = modus _ _ (modus _ _ (kind_law (marked rows k) (kind_law (λ k. below 51 (marked rows k)) t.whole k (omega arith)) j (omega arith)) (and_t (within 21 50 k) _ (within_of 21 50 k a b) (within_of 21 50 j c h))) (T_of s) in
+      let p = get_or rows (k - 21) (0, 0) in
+      let n = eqb→eq p.0 _ (and_l (eqb p.0 _) _ m) in
+      let o = eqb→eq p.1 j (and_r (eqb p.0 _) _ m) in
+      g (ap (λ (y : ℕ × ℕ). y.0) row_is ∙ n ∙ x) (omega (arith, ap (λ (y : ℕ × ℕ). y.1) row_is, o)))
+
+  pub picked : {r : Option ℕ} → r ≡ then_some (eqb its_row.0 d && not (eqb its_row.1 0)) its_row.1 → KindIs 21 50 (fixed_of k ++ d ∷ []) r
+  picked {r} f = go (eqb its_row.0 d) (eqb its_row.1 0) refl refl f
+    where
+      go : (x y : Bool) → eqb its_row.0 d ≡ x → eqb its_row.1 0 ≡ y → r ≡ then_some (x && not y) its_row.1 → KindIs 21 50 (fixed_of k ++ d ∷ []) r
+      go true false p q f = rw f (mark_found (eqb-true _ d p) (eqb-false _ 0 q))
+      go true true p q f = rw f (mark_missed (λ i h. omega (arith, eqb-true _ 0 q)))
+      go false y p q f = rw f (mark_missed (λ i h. eqb-false _ d p i))
 
 -- ---- classes
-pub table_rule : (f : ℕ → ℕ) (l : List ℕ) → T (every (λ k x. eqb x (f k)) 0 l) → length l ≡ 256 → Table f l
-table_rule f l t n = record { rule = λ b h. eqb→eq _ _ (at (λ k x. eqb x (f k)) l t b (omega arith)) }
+pub table_rule : (f : ℕ → ℕ) (l : List ℕ) → T (every (λ k x. eqb x (f k)) 0 l) → length l ≡ 256 → (b : ℕ) → b < 256 → get_or l b 0 ≡ f b
+table_rule f l t n b h = eqb→eq _ _ (at (λ k x. eqb x (f k)) l t b (omega arith))
 
 classed : (f : Set) (k : ℕ) → T (small f) → T (below 256 (λ b. implies (in_set f b) (eqb (class_of b) k))) → (b : ℕ) → in_set f b ≡ true → class_of b ≡ k
 classed f k s t b h = eqb-true (class_of b) k (subset f (λ b. eqb (class_of b) k) s t b h)

@@ -47,12 +47,8 @@ pub record LexedIs (text : List ℕ) (n m : ℕ) (a b : List ℕ) (r : Result Le
   pub diagnostics : b ≡ diagnostics_of m result
 
 -- ---- lexing alone: the outcomes 1, 2, 3, 4 and 0, in that order
-abbrev pub lex_error : TextError → LexError
-lex_error TextError.Long = LexError.Long
-lex_error TextError.Encoding = LexError.Encoding
-
 abbrev pub answer_of : ℕ → Result Lexemes TextError → Result LexedAlone LexError
-answer_of n (Err e) = Err (lex_error e)
+answer_of n (Err e) = Err (LexError.Text e)
 answer_of n (Ok (lexed ts (d ∷ ds))) = Err (LexError.Lexical (length (d ∷ ds)))
 answer_of n (Ok (lexed ts [])) = if nat_lt (n / 16) (length ts) then Err (LexError.TokenRoom (length ts)) else Ok (record { tokens = length ts; unknown = length (unknown_numerals ts) })
 

@@ -1,5 +1,5 @@
 -- Every byte's class: what it can begin, by the patterns of lexer.rs and, from 0x80 on, by the table of RFC 3629, section 3. Assumes nothing.
-use Rattle.std.specs.Prelude.{◌≡◌, cond, ◌&&◌, List, [], ◌∷◌, ℕ, suc, ◌+◌, ◌*◌, ◌%◌, ◌≤◌, ◌<◌, ltb, eqb, length, take, drop, get_or, Option, Some, None}
+use Rattle.std.specs.Prelude.{◌≡◌, cond, ◌&&◌, List, [], ◌∷◌, ℕ, suc, ◌+◌, ◌*◌, ◌%◌, ◌≤◌, ltb, eqb, length, drop, get_or, Option, Some, None}
 use Prim.Native.String.{String}
 use Rattle.patterns.specs.Bytes.{bytes, within, same, in_set, white, letter, digit}
 use Rattle.lexer.specs.Kinds.{texts, fixed_of}
@@ -40,21 +40,9 @@ unfoldable pub pair_of : ℕ → ℕ
 unfolding kind_from next_of texts
 pair_of b = kind_from 0 texts (b ∷ next_of b ∷ [])
 
--- the table has what f says of each byte
-pub record Table (f : ℕ → ℕ) (l : List ℕ) : Type 0 where
-  pub rule : (b : ℕ) → b < 256 → get_or l b 0 ≡ f b
-
 -- the key of a word
 abbrev pub key_of : List ℕ → ℕ
 key_of w = (get_or w 0 0 * 3 + get_or w 1 0 * 10 + length w * 4) % 256
-
--- the table has the kind of each keyword at its key, and no other kind; and the keyword's length and bytes at its kind
-pub record KeyTable (l : List ℕ) : Type 0 where
-  pub size : length l ≡ 436
-  pub kind : (b : ℕ) → b < 256 → (get_or l b 0 ≡ 0 → ⊥) → (2 ≤ get_or l b 0) × (get_or l b 0 ≤ 19)
-  pub some : (j : ℕ) → 2 ≤ j → j ≤ 19 → get_or l (key_of (fixed_of j)) 0 ≡ j
-  pub short : (j : ℕ) → 2 ≤ j → j ≤ 19 → get_or l (j * 9 + 256 + 8) 0 ≤ 8
-  pub text : (j : ℕ) → 2 ≤ j → j ≤ 19 → take (get_or l (j * 9 + 256 + 8) 0) (drop (j * 9 + 256) l) ≡ fixed_of j
 
 -- of the kinds from a to e, the one whose text is w, if there is one
 pub data KindIs (a e : ℕ) (w : List ℕ) : Option ℕ → Type 0 where

@@ -2,7 +2,7 @@
 use Rattle.std.specs.Prelude.{◌≡◌, List, [], ◌∷◌, ℕ, zero, suc, ◌+◌, drop, take, Result, Ok, Err}
 use Rattle.tables.specs.Tables.{Token, Diagnostic}
 use Rattle.utf8.specs.Utf8.{Begins}
-use Rattle.numeral.specs.Numeral.{numeral_of}
+use Rattle.numeral.specs.Numeral.{base_code, numeral_of}
 use Rattle.numeral.specs.declared.NumberLiteral.{NumberLiteral}
 use Rattle.numeral.specs.declared.NumberParseError.{NumberParseError}
 use Rattle.tables.specs.TokenKinds.{NUMBER}
@@ -19,7 +19,7 @@ pub data Item : Type 0 where
 -- a match of kind k: a numeral is what its spelling says, and tokens other than numerals have 0 for suffix, base and value
 abbrev pub item_of : ℕ → Result NumberLiteral NumberParseError → Item
 item_of zero a = skipped
-item_of (suc zero) (Ok l) = token NUMBER (suffix_code l.suffix) l.base l.value
+item_of (suc zero) (Ok l) = token NUMBER (suffix_code l.suffix) (base_code l.base) l.value
 item_of (suc zero) (Err NumberParseError.Overflow) = error (reason_code Reason.Overflow)
 item_of (suc zero) (Err NumberParseError.InvalidFormat) = error (reason_code Reason.Format)
 item_of (suc (suc k)) a = token (suc (suc k)) 0 0 0

@@ -5,6 +5,7 @@ use Rattle.patterns.specs.Bytes.{in_set, run}
 use Rattle.utf8.specs.Utf8.{Utf8, Begins, Rest}
 use Rattle.tables.specs.TokenKinds.{NUMBER}
 use Rattle.tables.specs.Codes.{suffix_code, reason_code}
+use Rattle.numeral.specs.Numeral.{base_code}
 use Rattle.numeral.specs.declared.NumberLiteral.{NumberLiteral}
 use Rattle.tables.specs.declared.entry_codes.Reason.{Reason}
 use Rattle.lexer.specs.Classes.{class_of}
@@ -59,7 +60,7 @@ pub record Reaches (text : List ℕ) (at n : ℕ) (i : Lexes.Item) : Type 0 wher
 pub data Stepped (text : List ℕ) (at : ℕ) : Result (Item × ℕ) NotUtf8 → Type 0 where
   skipped : {n : ℕ} → Reaches text at n Lexes.skipped → Stepped text at (Ok (Item.Skipped, n))
   token : {n k : ℕ} → Reaches text at n (Lexes.token k 0 0 0) → Stepped text at (Ok (Item.Token k, n))
-  literal : {n : ℕ} {l : NumberLiteral} → Reaches text at n (Lexes.token NUMBER (suffix_code l.suffix) l.base l.value) → Stepped text at (Ok (Item.Literal l, n))
+  literal : {n : ℕ} {l : NumberLiteral} → Reaches text at n (Lexes.token NUMBER (suffix_code l.suffix) (base_code l.base) l.value) → Stepped text at (Ok (Item.Literal l, n))
   error : {n : ℕ} {r : Reason} → Reaches text at n (Lexes.error (reason_code r)) → Stepped text at (Ok (Item.Error r, n))
   broken : {e : NotUtf8} → (Utf8 (drop at text) → ⊥) → Stepped text at (Err e)
 

@@ -1,9 +1,10 @@
 // Lexing alone, with 01's outcomes.
 ghost use Rattle.std.specs.Prelude.{◌≡◌, length};
-ghost use Rattle.lexer.specs.Answers.{AnswerIs, lex_error};
+ghost use Rattle.lexer.specs.Answers.{AnswerIs};
+ghost use Rattle.lexer.specs.declared.entry.LexError.TheVariants.{Text};
 
 use super::lexing::{TextError, lex};
-use tables::{Entry, Token, clear_from};
+use tables::{Entry, Token};
 
 #[derive(Clone, Copy)]
 pub struct LexedAlone {
@@ -13,20 +14,16 @@ pub struct LexedAlone {
 
 #[derive(Clone, Copy)]
 pub enum LexError {
-    Long,
-    Encoding,
+    Text(TextError),
     Lexical(usize),
     TokenRoom(usize),
 }
 
 impl From<TextError> for LexError {
-    ghost from_gives = { λ e r. r ≡ lex_error e };
+    ghost from_gives = { λ e r. r ≡ Text e };
 
     fn from(e: TextError) -> LexError {
-        match e {
-            TextError::Long => LexError::Long,
-            TextError::Encoding => LexError::Encoding,
-        }
+        LexError::Text(e)
     }
 }
 
@@ -39,11 +36,11 @@ pub fn lex_alone(
 {
     let lexed = lex(text, tokens, diagnostics)?;
     if lexed.diagnostics > 0 {
-        clear_from(tokens, 0);
+        tokens.fill(0);
         return Err(LexError::Lexical(lexed.diagnostics));
     }
     if lexed.tokens > Token::room(tokens) {
-        clear_from(tokens, 0);
+        tokens.fill(0);
         return Err(LexError::TokenRoom(lexed.tokens));
     }
     Ok(LexedAlone {

@@ -4,12 +4,12 @@ ghost use Rattle.lexer.specs.Scans.{Begun, Stepped, Refused};
 ghost use Rattle.lexer.specs.Answers.{LexedIs};
 ghost use Rattle.lexer.specs.declared.lexing.TextError.TheVariants.{Encoding};
 
-use super::class::{Tables, WHITE};
+use super::class::{WHITE, class_of};
 use super::scan::{Found, NotUtf8, scan};
-use numeral::{NumberLiteral, NumberParseError, parse_number_literal};
+use numeral::{NumberLiteral, parse_number_literal};
 use tables::entry_codes::{Reason, Suffix};
 use tables::token_type::TokenType;
-use tables::{Diagnostic, Entry, Token, clear_from};
+use tables::{Diagnostic, Entry, Token};
 
 // What stands at a place. A token's kind is a byte, as the scanner has it.
 #[derive(Clone, Copy)]
@@ -42,19 +42,18 @@ impl From<NotUtf8> for TextError {
 }
 
 // The item and its size, by the class of the byte at the place, which is no white space.
-fn step(text: &[u8], at: usize, c: u8, tables: &Tables) -> Result<(Item, usize), NotUtf8>
+fn step(text: &[u8], at: usize, c: u8) -> Result<(Item, usize), NotUtf8>
     requires at_in_bounds { at ≤ length text.now }
     requires begun { Begun (drop at text.now) c }
     ensures { Stepped text.now at result }
 {
     let t = &text[at..];
-    match scan(t, c, tables)? {
+    match scan(t, c)? {
         Found::Skip(n) => Ok((Item::Skipped, n)),
         Found::Token { kind, size } => Ok((Item::Token(kind), size)),
         Found::Number(n) => match parse_number_literal(&t[..n]) {
             Ok(literal) => Ok((Item::Literal(literal), n)),
-            Err(NumberParseError::Overflow) => Ok((Item::Error(Reason::Overflow), n)),
-            Err(NumberParseError::InvalidFormat) => Ok((Item::Error(Reason::Format), n)),
+            Err(e) => Ok((Item::Error(Reason::from(e)), n)),
         },
         Found::Strange(n) => Ok((Item::Error(Reason::Character), n)),
     }
@@ -68,18 +67,17 @@ fn pass(text: &[u8], tokens: &mut [u8], diagnostics: &mut [u8]) -> Result<Lexed,
     if text.len() > 65535 {
         return Err(TextError::Long);
     }
-    let tables = Tables::new();
     let mut at = 0;
     let mut token_count: usize = 0;
     let mut unknown: usize = 0;
     let mut error_count: usize = 0;
     // A turn goes on by a whole item.
     while at < text.len() {
-        let c = tables.class(text[at]);
+        let c = class_of(text[at]);
         if c == WHITE {
             at += 1;
         } else {
-            let (item, size) = step(text, at, c, &tables)?;
+            let (item, size) = step(text, at, c)?;
             let start = at as u16;
             at += size;
             let end = at as u16;
@@ -88,11 +86,9 @@ fn pass(text: &[u8], tokens: &mut [u8], diagnostics: &mut [u8]) -> Result<Lexed,
                 Item::Token(kind) => {
                     let token = Token {
                         kind,
-                        suffix: Suffix::Absent as u8,
                         start,
                         end,
-                        base: 0,
-                        value: 0,
+                        ..Token::default()
                     };
                     token.put(tokens, token_count);
                     token_count += 1;
@@ -103,7 +99,7 @@ fn pass(text: &[u8], tokens: &mut [u8], diagnostics: &mut [u8]) -> Result<Lexed,
                         suffix: literal.suffix as u8,
                         start,
                         end,
-                        base: literal.base,
+                        base: literal.base.radix(),
                         value: literal.value,
                     };
                     token.put(tokens, token_count);
@@ -137,8 +133,8 @@ pub fn lex(text: &[u8], tokens: &mut [u8], diagnostics: &mut [u8]) -> Result<Lex
     let r = pass(text, tokens, diagnostics);
     if r.is_err() {
         // A text that is refused leaves nothing in the tables.
-        clear_from(tokens, 0);
-        clear_from(diagnostics, 0);
+        tokens.fill(0);
+        diagnostics.fill(0);
     }
     r
 }

@@ -5,7 +5,7 @@ ghost use Rattle.tables.specs.TokenKinds.{LPAREN, SEMI};
 ghost use Rattle.lexer.specs.Scans.{Begun, all_plain, LineIs, Scanned};
 ghost use Rattle.lexer.specs.Tokens.{Stuck};
 
-use super::class::{DIGIT, LETTER, STRANGE, Tables};
+use super::class::{DIGIT, LETTER, STRANGE, keyword, pair_of, word_run};
 use tables::token_type::TokenType;
 use utf8::char_len;
 
@@ -33,14 +33,8 @@ fn is_plain(t: &[u8]) -> bool
 fn line_run(t: &[u8]) -> Result<usize, NotUtf8>
     ensures { LineIs t.now result }
 {
-    let mut i = 0;
-    for sixteen in t.chunks_exact(16) {
-        if is_plain(sixteen) {
-            i += 16;
-        } else {
-            break;
-        }
-    }
+    let sixteens = t.chunks_exact(16).take_while(|c| is_plain(*c)).count();
+    let mut i = sixteens * 16;
     // A turn goes on by a whole character.
     while i < t.len() {
         let b = t[i];
@@ -74,18 +68,16 @@ fn strange(t: &[u8]) -> Result<Found, NotUtf8>
 }
 
 // By the class of the first byte, which is no white space.
-pub(crate) fn scan(t: &[u8], c: u8, tables: &Tables) -> Result<Found, NotUtf8>
+pub(crate) fn scan(t: &[u8], c: u8) -> Result<Found, NotUtf8>
     requires begun { Begun t.now c }
     ensures { Scanned t.now result }
 {
     if c >= LETTER {
-        let size = tables.word_run(t);
+        let size = word_run(t);
         if c == DIGIT {
             return Ok(Found::Number(size));
         }
-        let kind = tables
-            .keyword(&t[..size])
-            .unwrap_or(TokenType::Identifier as u8);
+        let kind = keyword(&t[..size]).unwrap_or(TokenType::Identifier as u8);
         return Ok(Found::Token { kind, size });
     }
     if c >= STRANGE {
@@ -101,7 +93,7 @@ pub(crate) fn scan(t: &[u8], c: u8, tables: &Tables) -> Result<Found, NotUtf8>
         }
         return Ok(Found::Skip(line_run(&t[2..])? + 2));
     }
-    match tables.pair_of(t[0], t[1]) {
+    match pair_of(c, t[1]) {
         Some(kind) => Ok(Found::Token { kind, size: 2 }),
         None => Ok(one),
     }

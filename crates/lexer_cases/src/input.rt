@@ -15,7 +15,7 @@ pub fn bytes(spelled: &[u8]) -> ArrayVec<u8, 65600> {
             [b'*', rest @ ..] => {
                 case.rest = rest;
                 let last = text.last().copied().unwrap_or(0);
-                (last, case.number().saturating_sub(1))
+                (last, case.number::<usize>().saturating_sub(1))
             }
             [high, low, rest @ ..] => {
                 case.rest = rest;

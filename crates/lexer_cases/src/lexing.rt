@@ -1,8 +1,8 @@
 // A case of the lexing entry.
-use case_io::{TokenRow, stray};
+use case_io::UsedEntries;
+use std::io;
 use std::io::Write;
-use std::{fmt, io};
-use tables::{Diagnostic, Entry, Token};
+use tables::{Diagnostic, Token};
 
 // The tables are full of another byte before the call.
 pub fn answer<W: Write>(
@@ -11,15 +11,15 @@ pub fn answer<W: Write>(
     token_bytes: usize,
     diagnostic_bytes: usize,
 ) -> io::Result<()> {
-    let mut tokens = [0xAAu8; 16384];
-    let mut diagnostics = [0xAAu8; 16384];
-    match (
+    let mut tokens = [0xAA; 16384];
+    let mut diagnostics = [0xAA; 16384];
+    let (Some(tokens), Some(diagnostics)) = (
         tokens.get_mut(..token_bytes),
         diagnostics.get_mut(..diagnostic_bytes),
-    ) {
-        (Some(tokens), Some(diagnostics)) => lexed(out, text, tokens, diagnostics),
-        _ => Ok(()),
-    }
+    ) else {
+        return Ok(());
+    };
+    lexed(out, text, tokens, diagnostics)
 }
 
 // The outcome, the counts, for each table the bytes that should be zero and are not, then each token and each diagnostic.
@@ -29,6 +29,7 @@ fn lexed<W: Write>(
     tokens: &mut [u8],
     diagnostics: &mut [u8],
 ) -> io::Result<()> {
+    // C's entry is what is tested, so the counts come through references, over what stood there.
     let mut token_count: usize = 0xAAAA_AAAA_AAAA_AAAA;
     let mut diagnostic_count: usize = 0xAAAA_AAAA_AAAA_AAAA;
     let outcome = entries::cairo_m_lex(
@@ -40,32 +41,18 @@ fn lexed<W: Write>(
     );
     // Only its own outcome uses a table.
     let (t, d) = match outcome {
-        0 => (token_count.min(Token::room(tokens)), 0),
-        3 => (0, diagnostic_count.min(Diagnostic::room(diagnostics))),
+        0 => (token_count, 0),
+        3 => (0, diagnostic_count),
         _ => (0, 0),
     };
+    let tokens = UsedEntries::<Token>::new(tokens, t);
+    let diagnostics = UsedEntries::<Diagnostic>::new(diagnostics, d);
     write!(
         out,
         "l {outcome} {token_count} {diagnostic_count} {} {}",
-        stray(tokens, t, Token::SIZE, 7..8),
-        stray(diagnostics, d, Diagnostic::SIZE, 5..8)
+        tokens.stray(),
+        diagnostics.stray()
     )?;
-    for i in 0..t {
-        write!(out, " t{}", TokenRow(Token::at(tokens, i)))?;
-    }
-    for i in 0..d {
-        write!(out, " d{}", DiagnosticRow(Diagnostic::at(diagnostics, i)))?;
-    }
-    Ok(())
-}
-
-// A diagnostic as the case files spell it.
-#[derive(Clone, Copy)]
-struct DiagnosticRow(Diagnostic);
-
-impl fmt::Display for DiagnosticRow {
-    fn fmt<W: fmt::Write>(&self, f: &mut fmt::Formatter<W>) -> fmt::Result {
-        let Diagnostic { start, end, reason } = self.0;
-        write!(f, "{start},{end},{reason}")
-    }
+    tokens.write(out, " t")?;
+    diagnostics.write(out, " d")
 }

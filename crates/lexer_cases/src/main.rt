@@ -4,37 +4,43 @@
 mod input;
 mod lexing;
 
-use case_io::{Cases, fill, room};
+ghost use Rattle.std.specs.Prelude.{◌≡◌, []};
+
+use case_io::{Case, Cases, answer_all, with_input};
 use input::bytes;
-use numeral::{NumberLiteral, NumberParseError, NumeralError};
+use numeral::{NumberLiteral, NumeralError};
 use std::io::Write;
 use std::{fmt, io};
 use tables::entry_codes::Reason;
 
 fn main(rt: HostRuntime) -> io::Result<()> {
-    let mut file = room::<262144>();
-    let n = fill(&mut rt.stdin(), &mut file)?;
-    answers(&mut rt.stdout(), &file[..n])
+    with_input::<262144, _, _>(&mut rt.stdin(), |file| {
+        answer_all::<Line<'_>, _>(file, &mut rt.stdout())
+    })
 }
 
-fn answers<W: Write>(out: &mut W, file: &[u8]) -> io::Result<()> {
-    let mut cases = Cases { rest: file };
-    while let Some(case) = cases.line() {
-        answer(out, case)?;
-    }
-    Ok(())
-}
+// A case is a line, whose first letter says what it asks. A heading is printed as it stands.
+// parser_cases has such a type too, since no program may implement case_io's trait for a type of case_io.
+#[derive(Clone, Copy)]
+struct Line<'a>(&'a [u8]);
 
-// A heading is printed as it stands.
-fn answer<W: Write>(out: &mut W, case: &[u8]) -> io::Result<()> {
-    match case {
-        [] | [_] | [_, _] => return Ok(()),
-        [b'u', _, spelled @ ..] => utf8_case(out, bytes(spelled).as_slice())?,
-        [b'n', _, spelled @ ..] => numeral_case(out, bytes(spelled).as_slice())?,
-        [b'l', _, rest @ ..] => lexing_case(out, Cases { rest })?,
-        _ => out.write_all(case)?,
+impl<'a> Case<'a> for Line<'a> {
+    ghost no_more = { λ rest. rest ≡ [] };
+
+    fn next(cases: &mut Cases<'a>) -> Option<Line<'a>> {
+        cases.line().map(Line)
     }
-    writeln!(out)
+
+    fn answer<W: Write>(self, out: &mut W) -> io::Result<()> {
+        match self.0 {
+            [] | [_] | [_, _] => return Ok(()),
+            [b'u', _, spelled @ ..] => utf8_case(out, bytes(spelled).as_slice())?,
+            [b'n', _, spelled @ ..] => numeral_case(out, bytes(spelled).as_slice())?,
+            [b'l', _, rest @ ..] => lexing_case(out, Cases { rest })?,
+            heading => out.write_all(heading)?,
+        }
+        writeln!(out)
+    }
 }
 
 // u BYTES: is_utf8, char_len.
@@ -44,8 +50,8 @@ fn utf8_case<W: Write>(out: &mut W, text: &[u8]) -> io::Result<()> {
     write!(out, "u {valid} {len}")
 }
 
-// n BYTES: outcome, value, suffix, base and reason of the C entry, then the answer as a Result. The places for the answer
-// hold something else before the call.
+// n BYTES: outcome, value, suffix, base and reason of the C entry, then the answer as a Result. C's entry is what is tested,
+// so its answer comes through references, over what stood there.
 fn numeral_case<W: Write>(out: &mut W, spelling: &[u8]) -> io::Result<()> {
     let mut value: u64 = 0xAAAA_AAAA_AAAA_AAAA;
     let mut suffix: u8 = 0xAA;
@@ -75,16 +81,12 @@ impl fmt::Display for Shown {
                     suffix,
                     base,
                 } = literal;
-                write!(f, "number {value} {} {base}", suffix as u8)
+                write!(f, "number {value} {} {}", suffix as u8, base as u8)
             }
             Err(NumeralError::Long) => write!(f, "long"),
             Err(NumeralError::Spelling) => write!(f, "spelling"),
             Err(NumeralError::Lexical(error)) => {
-                let reason = match error {
-                    NumberParseError::Overflow => Reason::Overflow,
-                    NumberParseError::InvalidFormat => Reason::Format,
-                };
-                write!(f, "lexical {}", reason as u8)
+                write!(f, "lexical {}", Reason::from(error) as u8)
             }
         }
     }

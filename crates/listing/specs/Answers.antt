@@ -1,5 +1,6 @@
 -- What the listing answers: from the table and the length of out, the answer and every byte of out. Assumes nothing.
-use Rattle.std.specs.Prelude.{◌≡◌, Bool, true, cond, ◌&&◌, List, [], ◌∷◌, ℕ, leb, length, replicate, Result, Ok, Err}
+use Rattle.std.specs.Prelude.{◌≡◌, Bool, cond, List, ℕ, leb, length, replicate, Result, Ok, Err}
+use Rattle.std.specs.List.{list_all}
 use Rattle.patterns.specs.Bytes.{within}
 use Rattle.tables.specs.Tables.{Node, Diagnostic, filled}
 use Rattle.json_text.specs.Json.{names, listing, refusal}
@@ -11,8 +12,7 @@ known k = within 1 (length names) k
 
 -- every node's kind is
 unfoldable pub all_are_known : List Node → Bool
-all_are_known [] = true
-all_are_known (n ∷ ns) = known n.kind && all_are_known ns
+all_are_known ns = list_all (λ n. known n.kind) ns
 
 -- outcome 10, output room: "JSON longer than the lent bytes", of which there are n
 unfoldable pub fitted : ℕ → List ℕ → Result (List ℕ) ListError

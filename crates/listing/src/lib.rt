@@ -5,27 +5,28 @@ ghost use Rattle.std.specs.Prelude.{◌≡◌, length};
 ghost use Rattle.tables.specs.Tables.{nodes_of, diagnostics_of};
 ghost use Rattle.listing.specs.Answers.{known, all_are_known, listed, refused, ListedIs};
 
+use grammar::node_kind::NodeKind;
 use json_text::Writer;
 use tables::{Diagnostic, Entry, Node};
 
-// Outcomes 11 and 10: a kind that is none, and no room for the text.
+// A kind that is none, and no room for the text, by 01's numbers.
 #[derive(Clone, Copy, PartialEq, Eq)]
 pub enum ListError {
-    Kind,
-    Room,
+    Kind = 11,
+    Room = 10,
 }
 
 #[tactic(auto, unfolding(crate::specs::Answers::known, json_text::specs::Json::names))]
 fn is_known(kind: u8) -> bool
     ensures { result ≡ known kind }
 {
-    (1..=42).contains(&kind)
+    (NodeKind::Name as u8..=NodeKind::UseList as u8).contains(&kind)
 }
 
 fn all_known(nodes: &[u8]) -> bool
     ensures { result ≡ all_are_known (nodes_of nodes.now) }
 {
-    (0..Node::room(nodes)).all(|i| is_known(Node::at(nodes, i).kind))
+    Node::entries(nodes).all(|node| is_known(node.kind))
 }
 
 // Every node of the table; out is zero after the text, and all zero when refused.

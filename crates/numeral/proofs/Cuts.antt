@@ -1,9 +1,9 @@
 -- The last occurrence of a word, and the cut. Assumes nothing.
-use mathlib.Core.Path.{◌≡◌, refl, sym, ap, ◌∙◌}
+use mathlib.Core.Path.{◌≡◌, refl, sym, ap, ap₂, subst, ◌∙◌}
 use mathlib.Core.Bool.{Bool, true, false, cond, not, ◌&&◌, false≢true}
 use mathlib.Core.List.{List, [], ◌∷◌}
-use Prim.Native.Nat.{ℕ, zero, suc, ◌-◌, ◌≤◌, ◌<◌, min}
-use native.Mathlib.Numerals.{sub-one}
+use Prim.Native.Nat.{ℕ, zero, suc, ◌+◌, ◌-◌, ◌≤◌, ◌<◌, min}
+use native.Mathlib.Nat.{add-zero, sub-zero}
 use native.Mathlib.Omega.{arith}
 use lib.ListN.{length, take, drop}
 use lib.Dec.{ltb, eqb}
@@ -11,37 +11,63 @@ use borrow.Author.Tests.{eq-eqb, ne_eqb, lt-ltb, le-ltb}
 use Prim.Native.String.{String}
 use Rattle.std.specs.Prelude.{Option, Some, None, unwrap_or, is_some, IfSome}
 use Rattle.std.specs.Char.{digit_value}
-use Rattle.std.specs.Option.{option_or}
-use Rattle.std.specs.List.{take_while}
+use Rattle.std.specs.Option.{option_or, option_map}
+use Rattle.std.specs.declared.ops.Range.{Range}
+use Rattle.std.specs.Range.{range_steps_back}
+use Rattle.std.specs.declared.iter.Rev.{Rev}
+use Rattle.std.specs.Iterator.Adapters.{rev_steps}
+use Rattle.std.specs.List.{find}
+use Rattle.std.proofs.lemmas.Iterator.{YieldsList}
+use Rattle.std.proofs.lemmas.Iterator.Adapters.{option_map_id}
+use Rattle.std.proofs.lemmas.Iterator.Consumers.{YieldsList-from_shown}
+use Rattle.std.specs.List.{take_while, starts_with}
 use Rattle.std.proofs.lemmas.List.Sums.{take_while-cons}
 use Rattle.patterns.specs.Bytes.{bytes, run, starts}
 use Rattle.patterns.proofs.Runs.{rest_is}
+use Rattle.patterns.proofs.Words.{starts_is}
 use Rattle.numeral.proofs.Digits.{value_is}
 use Rattle.numeral.specs.Numeral.{digit_in, last_below, last_of, cut_at, cut_by, cut_of}
 
--- ---- the loop of `rfind`: the word does not stand at i or after it
-pub record Sought (w s : List ℕ) (i : ℕ) : Type 0 where
-  pub so_far : last_of w s ≡ last_below w s i
+-- ---- the search of `rfind`: through a range from its back
+-- k numbers from a on, the greatest first
+abbrev pub downs : ℕ → ℕ → List ℕ
+downs a zero = []
+downs a (suc k) = (k + a) ∷ downs a k
 
-module _ {w s : List ℕ} where
-  pub sought_none : Sought w s (length s)
-  unfolding last_of
-  sought_none = record { so_far = refl }
+abbrev Back : Rev (Range ℕ) → Option ℕ → Rev (Range ℕ) → Type 0
+Back = rev_steps (range_steps_back (λ a b. b - a) (λ a b. b ≡ a + 1))
 
-  sought_at : (i : ℕ) → Sought w s i → 0 < i → last_of w s ≡ cond (starts w (take (length s - (i - 1)) (drop (i - 1) s))) (i - 1) (last_below w s (i - 1))
-  unfolding last_below
-  sought_at zero p h = absurd (omega arith)
-  sought_at (suc i) p h = p.so_far ∙ rw (sub-one, rest_is)
+abbrev left : Rev (Range ℕ) → List ℕ
+left s = downs s.iter.start (s.iter.end - s.iter.start)
 
-  pub sought_more : {i : ℕ} {r : Bool} → Sought w s i → 0 < i → r ≡ starts w (take (length s - (i - 1)) (drop (i - 1) s)) → r ≡ false → Sought w s (i - 1)
-  sought_more p h e q = record { so_far = sought_at _ p h ∙ rw (← e, q) }
+pub downwards : {s : Rev (Range ℕ)} (n : ℕ) → s.iter ≡ record { start = 0; end = n } → YieldsList Back (λ x. x) s (downs 0 n)
+downwards {s} n e = subst (YieldsList Back (λ x. x) s) (ap (λ (r : Range ℕ). downs r.start (r.end - r.start)) e ∙ ap (downs 0) (sub-zero n)) (YieldsList-from_shown Back (λ x. x) left none some s)
+  where
+    none : (s t : Rev (Range ℕ)) → Back s None t → length (left s) ≡ 0
+    none s t h = rw h.1.0
 
-  pub sought_stop : {i : ℕ} {r : Bool} → Sought w s i → 0 < i → r ≡ starts w (take (length s - (i - 1)) (drop (i - 1) s)) → r ≡ true → i - 1 ≡ last_of w s
-  sought_stop p h e q = sym (sought_at _ p h ∙ rw (← e, q))
+    some : (s : Rev (Range ℕ)) (x : ℕ) (t : Rev (Range ℕ)) → Back s (Some x) t → left s ≡ x ∷ left t
+    some s x t h =
+        let e : s.iter.end - s.iter.start ≡ suc (t.iter.end - t.iter.start) = omega (arith, h.0, h.1.0, h.1.2) in
+        let f : t.iter.end - t.iter.start + s.iter.start ≡ x = omega (arith, h.0, h.1.0, h.1.1, h.1.2) in
+        rw e (ap₂ (◌∷◌) f (ap (λ a. downs a (t.iter.end - t.iter.start)) (sym h.0)))
 
-  pub sought_end : {i : ℕ} → Sought w s i → i ≤ 0 → length s ≡ last_of w s
-  unfolding last_below
-  sought_end {i} p h = let e : i ≡ 0 = omega arith in sym (p.so_far ∙ rw e)
+found_below : (w s : List ℕ) (n : ℕ) → unwrap_or (find (λ i. starts w (drop i s)) (downs 0 n)) (length s) ≡ last_below w s n
+unfolding last_below
+found_below w s zero = refl
+found_below w s (suc n) = rw add-zero (go (starts w (drop n s)) (found_below w s n))
+  where
+    go : (t : Bool) → unwrap_or (find (λ i. starts w (drop i s)) (downs 0 n)) (length s) ≡ last_below w s n → unwrap_or (cond t (Some n) (find (λ i. starts w (drop i s)) (downs 0 n))) (length s) ≡ cond t n (last_below w s n)
+    go true e = refl
+    go false e = e
+
+pub found_last : (w s : List ℕ) (r : Option ℕ) → option_map (λ x. x) r ≡ find (λ i. starts w (drop i s)) (downs 0 (length s)) → unwrap_or r (length s) ≡ last_of w s
+unfolding last_of
+found_last w s r e = ap (λ o. unwrap_or o (length s)) (sym (option_map_id r) ∙ e) ∙ found_below w s (length s)
+
+-- the test of one place
+pub starts_here : {r : Bool} (w s : List ℕ) (i : ℕ) → r ≡ starts_with eqb (take (length s - i) (drop i s)) w → r ≡ starts w (drop i s)
+starts_here w s i e = starts_is w _ e ∙ rw rest_is
 
 -- ---- how many bytes are digits of the base
 pub run_is : (base : ℕ) (s : List ℕ) → length (take_while (λ b. ltb (digit_value b) base) s) ≡ run (digit_in base) s

@@ -7,7 +7,7 @@ use native.Mathlib.Nat.{mul-le-mul_left, le-div_iff_mul-le, div-lt_iff_lt-mul}
 use native.Mathlib.Numerals.{add-one}
 use native.Mathlib.Omega.{arith}
 use native.Mathlib.Decide.{dec_le}
-use lib.Dec.{T, leb, ltb, eqb, eqb→eq, le→leb}
+use lib.Dec.{ltb, eqb, eqb→eq}
 use lib.ListN.{length, drop, get_or, drop_of_length-le}
 use lib.Seq.{drop-cons}
 use mir.Syntax.{w64}
@@ -18,8 +18,9 @@ use Rattle.std.specs.Prelude.{Option, Some, None, SomeIff}
 use Rattle.std.specs.Char.{digit_value}
 use Rattle.std.proofs.Common.{Ok, Err}
 use Rattle.tables.specs.declared.entry_codes.Suffix.{Suffix}
+use Rattle.numeral.specs.declared.Base.{Base}
 use Rattle.numeral.specs.declared.NumberParseError.{NumberParseError}
-use Rattle.numeral.specs.Numeral.{most, digit_of, digit_in, reading}
+use Rattle.numeral.specs.Numeral.{most, base_code, digit_of, digit_in, reading}
 
 -- the library's value of a digit
 pub value_is : (b : ℕ) → digit_value b ≡ digit_of b
@@ -76,46 +77,46 @@ at_least : (base c q : ℕ) → q ≡ base → (digit_value c < q → ⊥) → b
 at_least base c q b g = elim (dec_le q (digit_value c)) [ yes p ↦ omega (arith, value_is c) | no p ↦ absurd (g (omega arith)) ]
 
 -- ---- the loop of `from_str_radix`: the first i bytes give the value v
-pub record Read (base : ℕ) (x : Suffix) (s : List ℕ) (v i : ℕ) : Type 0 where
+pub record Read (base : Base) (x : Suffix) (s : List ℕ) (v i : ℕ) : Type 0 where
   pub within : i ≤ length s
   pub fits : v ≤ most
   pub so_far : reading base x 0 s ≡ reading base x v (drop i s)
 
-module _ {base : ℕ} {x : Suffix} {s : List ℕ} where
+module _ {base : Base} {x : Suffix} {s : List ℕ} where
   pub read_none : Read base x s 0 0
   read_none = record { within = zero-le; fits = zero-le; so_far = refl }
 
-  pub read_more : {v i d : ℕ} {r : Bool} → Read base x s v i → i < length s → d ≡ digit_of (get_or s i 0) → d < base → r ≡ ltb most (v * base + d) → r ≡ false → Read base x s (v * base + d) (i + 1)
+  pub read_more : {v i d : ℕ} {r : Bool} → Read base x s v i → i < length s → d ≡ digit_of (get_or s i 0) → d < base_code base → r ≡ ltb most (v * base_code base + d) → r ≡ false → Read base x s (v * base_code base + d) (i + 1)
   unfolding reading
   read_more {v} {i} {d} {r} p h e k o q =
       record {
         within = omega arith;
-        fits = next_most v base d r o q;
-        so_far = p.so_far ∙ rw (add-one, drop-cons s i 0 h, is_digit base _ d e k, ← e, ← o, q);
+        fits = next_most v (base_code base) d r o q;
+        so_far = p.so_far ∙ rw (add-one, drop-cons s i 0 h, is_digit (base_code base) _ d e k, ← e, ← o, q);
       }
 
-  pub read_over : {v i d : ℕ} {r : Bool} → Read base x s v i → i < length s → d ≡ digit_of (get_or s i 0) → d < base → r ≡ ltb most (v * base + d) → r ≡ true → Err NumberParseError.Overflow ≡ reading base x 0 s
+  pub read_over : {v i d : ℕ} {r : Bool} → Read base x s v i → i < length s → d ≡ digit_of (get_or s i 0) → d < base_code base → r ≡ ltb most (v * base_code base + d) → r ≡ true → Err NumberParseError.Overflow ≡ reading base x 0 s
   unfolding reading
-  read_over {v} {i} {d} {r} p h e k o q = sym (p.so_far ∙ rw (drop-cons s i 0 h, is_digit base _ d e k, ← e, ← o, q))
+  read_over {v} {i} {d} {r} p h e k o q = sym (p.so_far ∙ rw (drop-cons s i 0 h, is_digit (base_code base) _ d e k, ← e, ← o, q))
 
-  pub read_format : {v i d : ℕ} → Read base x s v i → i < length s → d ≡ digit_of (get_or s i 0) → base ≤ d → Err NumberParseError.InvalidFormat ≡ reading base x 0 s
+  pub read_format : {v i d : ℕ} → Read base x s v i → i < length s → d ≡ digit_of (get_or s i 0) → base_code base ≤ d → Err NumberParseError.InvalidFormat ≡ reading base x 0 s
   unfolding reading
-  read_format {v} {i} {d} p h e k = sym (p.so_far ∙ rw (drop-cons s i 0 h, no_digit base _ d e k))
+  read_format {v} {i} {d} p h e k = sym (p.so_far ∙ rw (drop-cons s i 0 h, no_digit (base_code base) _ d e k))
 
   -- what the library says of a digit
-  module _ {v i q c : ℕ} {o : Option ℕ} (p : Read base x s v i) (h : i < length s) (e : c ≡ get_or s i 0) (b : q ≡ base) (f : SomeIff o (digit_value c < q) (digit_value c)) where
+  module _ {v i q c y : ℕ} {o : Option ℕ} (p : Read base x s v i) (h : i < length s) (e : c ≡ get_or s i 0) (j : q ≡ y) (z : y ≡ base_code base) (f : SomeIff o (digit_value c < q) (digit_value c)) where
     pub step_format : o ≡ None → Err NumberParseError.InvalidFormat ≡ reading base x 0 s
-    step_format n = let g = rw n at f in read_format {d = digit_of c} p h (ap digit_of e) (at_least base c q b g)
+    step_format n = let g = rw n at f in read_format {d = digit_of c} p h (ap digit_of e) (at_least (base_code base) c q (j ∙ z) g)
 
-    module _ {d w r : ℕ} {t : Bool} (n : o ≡ Some d) (k : w ≡ d) (m : r ≡ base) (u : t ≡ ltb most (v * r + w)) where
-      told : (w ≡ digit_of c) × (w < base)
-      told = let g = rw n at f in (k ∙ g.1 ∙ value_is c, omega (arith, k, b, g.0, g.1))
+    module _ {d w r y' : ℕ} {t : Bool} (n : o ≡ Some d) (k : w ≡ d) (m : r ≡ y') (l : y' ≡ base_code base) (u : t ≡ ltb most (v * r + w)) where
+      told : (w ≡ digit_of c) × (w < base_code base)
+      told = let g = rw n at f in (k ∙ g.1 ∙ value_is c, omega (arith, k, j, z, g.0, g.1))
 
       pub step_over : t ≡ true → Err NumberParseError.Overflow ≡ reading base x 0 s
-      step_over y = read_over {d = w} p h (told.0 ∙ ap digit_of e) told.1 (u ∙ ap (λ (z : ℕ). ltb most (v * z + w)) m) y
+      step_over f = read_over {d = w} p h (told.0 ∙ ap digit_of e) told.1 (u ∙ ap (λ (j : ℕ). ltb most (v * j + w)) (m ∙ l)) f
 
       pub step_more : t ≡ false → Read base x s (v * r + w) (i + 1)
-      step_more y = rw m (read_more {d = w} p h (told.0 ∙ ap digit_of e) told.1 (u ∙ ap (λ (z : ℕ). ltb most (v * z + w)) m) y)
+      step_more f = rw (m ∙ l) (read_more {d = w} p h (told.0 ∙ ap digit_of e) told.1 (u ∙ ap (λ (j : ℕ). ltb most (v * j + w)) (m ∙ l)) f)
 
   pub read_end : {v i : ℕ} → Read base x s v i → length s ≤ i → Ok (record { value = v; suffix = x; base = base }) ≡ reading base x 0 s
   unfolding reading

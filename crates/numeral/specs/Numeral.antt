@@ -2,6 +2,7 @@
 use Rattle.std.specs.Prelude.{Bool, cond, ◌&&◌, List, [], ◌∷◌, ℕ, zero, suc, ◌+◌, ◌-◌, ◌*◌, min, ltb, eqb, length, take, drop, get_or, Result, Ok, Err}
 use Prim.Native.Char.{code}
 use Rattle.patterns.specs.Bytes.{bytes, within, in_set, either, run, starts, same}
+use Rattle.numeral.specs.declared.Base.{Base}
 use Rattle.numeral.specs.declared.NumberLiteral.{NumberLiteral}
 use Rattle.numeral.specs.declared.NumberParseError.{NumberParseError}
 use Rattle.tables.specs.declared.entry_codes.Suffix.{Suffix}
@@ -10,13 +11,25 @@ use Rattle.tables.specs.declared.entry_codes.Suffix.{Suffix}
 abbrev pub most : ℕ
 most = 18446744073709551615
 
+-- the number of a base
+abbrev pub base_code : Base → ℕ
+base_code Base.Binary = 2
+base_code Base.Octal = 8
+base_code Base.Decimal = 10
+base_code Base.Hexadecimal = 16
+
 -- a leading 0x, 0o or 0b (either case) sets the base, else base 10
-unfoldable pub base_of : List ℕ → ℕ
-base_of s =
+unfoldable pub base_in : List ℕ → Base
+base_in s =
     let b = get_or s 1 0 in
     cond (eqb (get_or s 0 0) (code "0"))
-    (cond (in_set (either "x" "X") b) 16 (cond (in_set (either "o" "O") b) 8 (cond (in_set (either "b" "B") b) 2 10)))
-    10
+    (cond (in_set (either "x" "X") b) Base.Hexadecimal
+    (cond (in_set (either "o" "O") b) Base.Octal (cond (in_set (either "b" "B") b) Base.Binary Base.Decimal)))
+    Base.Decimal
+
+-- its number
+abbrev pub base_of : List ℕ → ℕ
+base_of s = base_code (base_in s)
 
 -- a digit's value, the letters in either case from 10 on; 36 for a byte that is no digit
 unfoldable pub digit_of : ℕ → ℕ
@@ -63,27 +76,27 @@ unfolding same
 suffix_kind s = cond (eqb (length s) 0) Suffix.Absent (cond (same (bytes "felt") s) Suffix.Felt (cond (same (bytes "u32") s) Suffix.U32 Suffix.Other))
 
 -- digits are read left to right, here after the value v and with the suffix x: a non-digit is a format error; else a value above 18446744073709551615 is an overflow
-unfoldable pub reading : ℕ → Suffix → ℕ → List ℕ → Result NumberLiteral NumberParseError
+unfoldable pub reading : Base → Suffix → ℕ → List ℕ → Result NumberLiteral NumberParseError
 unfolding digit_in digit_of
 reading base x v [] = Ok (record { value = v; suffix = x; base = base })
 reading base x v (b ∷ s) =
-    cond (digit_in base b)
-    (cond (ltb most (v * base + digit_of b)) (Err NumberParseError.Overflow) (reading base x (v * base + digit_of b) s))
+    cond (digit_in (base_code base) b)
+    (cond (ltb most (v * base_code base + digit_of b)) (Err NumberParseError.Overflow) (reading base x (v * base_code base + digit_of b) s))
     (Err NumberParseError.InvalidFormat)
 
 -- nothing before the cut k: format error; a suffix that begins with a digit: format error; then the digits
-unfoldable pub read_to : ℕ → ℕ → List ℕ → Result NumberLiteral NumberParseError
+unfoldable pub read_to : Base → ℕ → List ℕ → Result NumberLiteral NumberParseError
 unfolding reading suffix_kind digit_in digit_of
 read_to base k s =
     cond (eqb k 0) (Err NumberParseError.InvalidFormat)
     (cond (digit_in 10 (get_or s k 0)) (Err NumberParseError.InvalidFormat) (reading base (suffix_kind (drop k s)) 0 (take k s)))
 
 -- what the rest says, in its base
-unfoldable pub rest_of : ℕ → List ℕ → Result NumberLiteral NumberParseError
+unfoldable pub rest_of : Base → List ℕ → Result NumberLiteral NumberParseError
 unfolding read_to cut_of
-rest_of base s = read_to base (cut_of base s) s
+rest_of base s = read_to base (cut_of (base_code base) s) s
 
 -- a leading 0x, 0o or 0b is dropped
 unfoldable pub numeral_of : List ℕ → Result NumberLiteral NumberParseError
-unfolding rest_of base_of
-numeral_of s = rest_of (base_of s) (cond (eqb (base_of s) 10) s (drop 2 s))
+unfolding rest_of base_in
+numeral_of s = rest_of (base_in s) (cond (eqb (base_of s) 10) s (drop 2 s))

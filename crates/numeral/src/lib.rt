@@ -7,17 +7,35 @@ ghost use Rattle.std.specs.List.{list_all, take_while};
 ghost use Rattle.patterns.specs.Bytes.{in_set, word, run};
 ghost use Rattle.numeral.specs.Entry.{AnswerIs, reason_of};
 ghost use Rattle.numeral.specs.Steps.{spelled};
-ghost use Rattle.numeral.specs.Numeral.{most, base_of, last_of, cut_at, cut_of, suffix_kind, reading, rest_of, numeral_of};
+ghost use Rattle.numeral.specs.Numeral.{most, base_code, base_in, last_of, cut_at, cut_of, suffix_kind, reading, rest_of, numeral_of};
 
-use patterns::{is_word, starts_with};
 use tables::entry_codes::{Reason, Suffix};
 
-// What a numeral says; the base is 16, 8, 2 or 10.
+// The bases, as their numbers.
+#[derive(Clone, Copy, PartialEq, Eq)]
+pub enum Base {
+    Binary = 2,
+    Octal = 8,
+    Decimal = 10,
+    Hexadecimal = 16,
+}
+
+impl Base {
+    // Its number.
+    pub fn radix(self) -> u8
+        ensures value { result ≡ base_code self }
+        ensures range { (2 ≤ result) × (result ≤ 16) }
+    {
+        self as u8
+    }
+}
+
+// What a numeral says.
 #[derive(Clone, Copy)]
 pub struct NumberLiteral {
     pub value: u64,
     pub suffix: Suffix,
-    pub base: u8,
+    pub base: Base,
 }
 
 #[derive(Clone, Copy, PartialEq, Eq)]
@@ -56,19 +74,18 @@ fn overflows(v: u64, base: u64, d: u64) -> bool
     v > (u64::MAX - d) / base
 }
 
-// The value of a run of digits.
+// The value of a run of digits. The library's `u64::from_str_radix` takes a `&str`, and a `+` before the digits.
 fn from_str_radix(
     number_str: &[u8],
-    base: u8,
+    base: Base,
     suffix: Suffix,
 ) -> Result<NumberLiteral, NumberParseError>
-    requires { (2 ≤ base) × (base ≤ 16) }
     ensures { result ≡ reading base suffix 0 number_str.now }
 {
-    let radix = u64::from(base);
+    let radix = u64::from(base.radix());
     let mut value: u64 = 0;
     for b in number_str {
-        let Some(digit) = char::from(*b).to_digit(u32::from(base)) else {
+        let Some(digit) = char::from(*b).to_digit(u32::from(base.radix())) else {
             return Err(NumberParseError::InvalidFormat);
         };
         let d = u64::from(digit);
@@ -89,21 +106,15 @@ fn rfind(s: &[u8], w: &[u8]) -> Option<usize>
     ensures value { unwrap_or result (length s.now) ≡ last_of w.now s.now }
     ensures bound { IfSome result (λ k. k < length s.now) }
 {
-    for i in (0..s.len()).rev() {
-        if starts_with(&s[i..], w) {
-            return Some(i);
-        }
-    }
-    None
+    (0..s.len()).rev().find(|i| s[*i..].starts_with(w))
 }
 
 // How many bytes from the start are digits of the base.
-fn digit_run(s: &[u8], base: u8) -> usize
-    requires { (2 ≤ base) × (base ≤ 16) }
-    ensures { result ≡ length (take_while (λ b. is_digit b base) s.now) }
+fn digit_run(s: &[u8], base: Base) -> usize
+    ensures { result ≡ length (take_while (λ b. is_digit b (base_code base)) s.now) }
 {
     s.iter()
-        .take_while(|b| char::from(**b).is_digit(u32::from(base)))
+        .take_while(|b| char::from(**b).is_digit(u32::from(base.radix())))
         .count()
 }
 
@@ -119,9 +130,8 @@ fn cut_at(last: Option<usize>, m: usize, n: usize) -> usize
 }
 
 // Where the number ends and the suffix begins.
-fn digit_end(s: &[u8], base: u8) -> usize
-    requires { (2 ≤ base) × (base ≤ 16) }
-    ensures { result ≡ cut_of base s.now }
+fn digit_end(s: &[u8], base: Base) -> usize
+    ensures { result ≡ cut_of (base_code base) s.now }
 {
     let n = s.len();
     let felt = rfind(s, b"felt");
@@ -136,20 +146,16 @@ fn digit_end(s: &[u8], base: u8) -> usize
 fn suffix_kind(s: &[u8]) -> Suffix
     ensures { result ≡ suffix_kind s.now }
 {
-    if s.is_empty() {
-        Suffix::Absent
-    } else if is_word(s, b"felt") {
-        Suffix::Felt
-    } else if is_word(s, b"u32") {
-        Suffix::U32
-    } else {
-        Suffix::Other
+    match s {
+        b"" => Suffix::Absent,
+        b"felt" => Suffix::Felt,
+        b"u32" => Suffix::U32,
+        _ => Suffix::Other,
     }
 }
 
 // What the rest after the base's prefix says.
-fn parse_remaining(remaining: &[u8], base: u8) -> Result<NumberLiteral, NumberParseError>
-    requires { (2 ≤ base) × (base ≤ 16) }
+fn parse_remaining(remaining: &[u8], base: Base) -> Result<NumberLiteral, NumberParseError>
     ensures { result ≡ rest_of base remaining.now }
 {
     if remaining.is_empty() {
@@ -174,14 +180,14 @@ fn parse_remaining(remaining: &[u8], base: u8) -> Result<NumberLiteral, NumberPa
 }
 
 // The base that a leading 0x, 0o or 0b sets.
-fn base_of(slice: &[u8]) -> u8
-    ensures { (result ≡ base_of slice.now) × (2 ≤ result) × (result ≤ 16) }
+fn base_of(slice: &[u8]) -> Base
+    ensures { result ≡ base_in slice.now }
 {
     match slice {
-        [b'0', b'x' | b'X', ..] => 16,
-        [b'0', b'o' | b'O', ..] => 8,
-        [b'0', b'b' | b'B', ..] => 2,
-        _ => 10,
+        [b'0', b'x' | b'X', ..] => Base::Hexadecimal,
+        [b'0', b'o' | b'O', ..] => Base::Octal,
+        [b'0', b'b' | b'B', ..] => Base::Binary,
+        _ => Base::Decimal,
     }
 }
 
@@ -189,14 +195,13 @@ fn base_of(slice: &[u8]) -> u8
 pub fn parse_number_literal(slice: &[u8]) -> Result<NumberLiteral, NumberParseError>
     ensures { result ≡ numeral_of slice.now }
 {
-    let base = base_of(slice);
-    if base == 10 {
-        return parse_remaining(slice, base);
+    match base_of(slice) {
+        Base::Decimal => parse_remaining(slice, Base::Decimal),
+        base => parse_remaining(&slice[2..], base),
     }
-    parse_remaining(&slice[2..], base)
 }
 
-// A letter, a digit or `_`.
+// A letter, a digit or `_`. The lexer's own `in_word` goes by its table.
 fn word_byte(b: u8) -> bool
     ensures { result ≡ in_set word b }
 {

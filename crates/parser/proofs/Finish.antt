@@ -1,24 +1,25 @@
 -- From the reading of all items to the answer; and two answers agree. Assumes nothing.
 use mathlib.Core.Path.{◌≡◌, refl, sym, ap, ◌∙◌}
 use mathlib.Core.List.{List}
-use Prim.Native.Nat.{ℕ, ◌*◌, ◌/◌, ◌<◌, min}
+use Prim.Native.Nat.{ℕ, ◌/◌, ◌<◌}
 use native.Mathlib.Omega.{arith}
 use lib.ListN.{length, replicate}
 use Rattle.std.specs.Prelude.{Result as Answer, Ok, Err}
 use Rattle.tables.specs.Tables.{Token, Node, kept, table}
-use Rattle.tables.proofs.Laws.{tokens_length, cleared_all}
+use Rattle.tables.proofs.Laws.{tokens_length}
 use Rattle.grammar.specs.Derive.{Input, S, Out, got, begin, Derives}
 use Rattle.grammar.specs.Grammar.{body, file, Tree, Deep, Stops}
 use Rattle.grammar.proofs.Unique.{unique, same}
 use Rattle.grammar.proofs.Whole.{tree_one, stops_one}
 use Rattle.cursor.specs.Entries.{input, entry_of}
-use Rattle.cursor.specs.Read.{Attempt, READING, FAILED, DEEP, Represents, reached, Result, matched, failed, exceeded, Reads, still, reads, start}
+use Rattle.cursor.specs.Read.{Attempt, Represents, reached, Result, matched, failed, exceeded, Reads, still, reads, start}
 use Rattle.parser.specs.Parse.{Verdict, tree, syntax, deep, VerdictIs, is_deep, is_tree, is_syntax, answer_of, nodes_of, ParsedIs}
 use Rattle.cursor.specs.declared.Cursor.{Cursor}
 use Rattle.parser.specs.declared.ParseError.{ParseError}
 use Rattle.cursor.proofs.Cursors.{near}
 use Rattle.cursor.proofs.Holding.{holds_none, held}
 use Rattle.cursor.proofs.Laws.{clash, fine}
+use Rattle.cursor.specs.declared.Status.TheVariants.{Reading, Failed, Deep as TooDeep}
 
 result : {text w : List ℕ} {p : Cursor} {T U : List ℕ} → Reads file text w start T p U → Result file text w start begin T p U
 result (still n e i f) = absurd (n refl)
@@ -31,24 +32,21 @@ shallow c d = let h = c.within.limit d.token d.nest d.takes in omega (arith, d.a
 stops : {x : Input} {o : Out} {b : ℕ} → Attempt x file 0 begin o 0 b → Stops x b
 stops {b = b} c = record { taken = λ i h. c.within.taken i (omega arith) h; untaken = λ t. omega (arith, c.within.below b t.0 t.1) }
 
--- no node is kept
-none_kept : {W : List ℕ} (T U : List ℕ) → length U ≡ length T → W ≡ kept 16 0 U → W ≡ replicate (length T) 0
-unfolding kept
-none_kept T U l e =
-    let m : min 0 (length U / 16) * 16 ≡ 0 = omega arith in
-    e ∙ rw m (cleared_all U ∙ ap (λ (n : ℕ). replicate n 0) l)
+-- the table is as long as it was
+all_zero : {W : List ℕ} {n m : ℕ} → m ≡ n → W ≡ replicate m 0 → W ≡ replicate n 0
+all_zero l e = e ∙ ap (λ (n : ℕ). replicate n 0) l
 
 module _ {text w : List ℕ} {p : Cursor} {r : Answer ℕ ParseError} {T U W : List ℕ} where
-  pub too_deep : Reads file text w start T p U → (p.status ≡ READING → ⊥) → W ≡ kept 16 0 U → length U ≡ length T → r ≡ Err ParseError.Deep → ParsedIs text w (length T) W r
+  pub too_deep : Reads file text w start T p U → (p.status ≡ Reading → ⊥) → W ≡ replicate (length U) 0 → length U ≡ length T → r ≡ Err ParseError.Deep → ParsedIs text w (length T) W r
   too_deep y n k l e = go (result y)
     where
       go : Result file text w start begin T p U → ParsedIs text w (length T) W r
       go (matched t z m v c f) = absurd (n z)
-      go (failed z c f) = absurd (fine y (λ e. clash READING FAILED refl e (omega arith)) z)
+      go (failed z c f) = absurd (fine y (λ e. clash Reading Failed refl e (omega arith)) z)
       go (exceeded z c) =
-          record { verdict = deep; is = is_deep (record { token = c.token; nest = c.nest; above = c.above; takes = c.takes }); answer = e; nodes = none_kept T U l k }
+          record { verdict = deep; is = is_deep (record { token = c.token; nest = c.nest; above = c.above; takes = c.takes }); answer = e; nodes = all_zero l k }
 
-  pub rejected : {n i : ℕ} → Reads file text w start T p U → p.status ≡ READING → n ≡ length w / 16 → (p.at ≡ n → ⊥) → W ≡ kept 16 0 U → length U ≡ length T → i ≡ reached p → r ≡ Err (ParseError.Syntax i)
+  pub rejected : {n i : ℕ} → Reads file text w start T p U → p.status ≡ Reading → n ≡ length w / 16 → (p.at ≡ n → ⊥) → W ≡ replicate (length U) 0 → length U ≡ length T → i ≡ reached p → r ≡ Err (ParseError.Syntax i)
       → ParsedIs text w (length T) W r
   rejected y z m a k l i e = go (result y)
     where
@@ -56,11 +54,11 @@ module _ {text w : List ℕ} {p : Cursor} {r : Answer ℕ ParseError} {T U W : L
       other v d ns us t = a (v.at ∙ ap (λ (x : S). x.at) (same (unique d t.derived)) ∙ t.all ∙ tokens_length w ∙ sym m)
 
       go : Result file text w start begin T p U → ParsedIs text w (length T) W r
-      go (matched t _ _ v c f) = record { verdict = syntax (reached p); is = is_syntax (shallow c) (other v c.derived) (stops c); answer = e ∙ ap (λ (k : ℕ). Err (ParseError.Syntax k)) i; nodes = none_kept T U l k }
-      go (failed z' c f) = clash FAILED READING z' z (omega arith)
-      go (exceeded z' c) = clash DEEP READING z' z (omega arith)
+      go (matched t _ _ v c f) = record { verdict = syntax (reached p); is = is_syntax (shallow c) (other v c.derived) (stops c); answer = e ∙ ap (λ (k : ℕ). Err (ParseError.Syntax k)) i; nodes = all_zero l k }
+      go (failed z' c f) = clash Failed Reading z' z (omega arith)
+      go (exceeded z' c) = clash TooDeep Reading z' z (omega arith)
 
-  pub accepted : {n : ℕ} → Reads file text w start T p U → p.status ≡ READING → n ≡ length w / 16 → p.at ≡ n → length T < 0x1_0000_0000_0000_0000 → p.count < 0x1_0000_0000_0000_0000 → W ≡ kept 16 p.count U → length U ≡ length T → r ≡ Ok p.count → ParsedIs text w (length T) W r
+  pub accepted : {n : ℕ} → Reads file text w start T p U → p.status ≡ Reading → n ≡ length w / 16 → p.at ≡ n → length T < 0x1_0000_0000_0000_0000 → p.count < 0x1_0000_0000_0000_0000 → W ≡ kept 16 p.count U → length U ≡ length T → r ≡ Ok p.count → ParsedIs text w (length T) W r
   accepted y z m a b h k l e = go (result y)
     where
       go : Result file text w start begin T p U → ParsedIs text w (length T) W r
@@ -71,8 +69,8 @@ module _ {text w : List ℕ} {p : Cursor} {r : Answer ℕ ParseError} {T U W : L
             answer = e ∙ ap (λ (k : ℕ). Ok k) (omega (arith, v.count.upto));
             nodes = k ∙ held (omega arith) v.count (f (holds_none T)) ∙ ap (λ (n : ℕ). table 16 entry_of n t.nodes) l;
           }
-      go (failed z' c f) = clash FAILED READING z' z (omega arith)
-      go (exceeded z' c) = clash DEEP READING z' z (omega arith)
+      go (failed z' c f) = clash Failed Reading z' z (omega arith)
+      go (exceeded z' c) = clash TooDeep Reading z' z (omega arith)
 
 -- ---- determined
 

@@ -5,7 +5,7 @@ mod items;
 
 ghost use Rattle.std.specs.Prelude.{length};
 ghost use Rattle.grammar.specs.Grammar.{file};
-ghost use Rattle.cursor.specs.Read.{Reads, start};
+ghost use Rattle.cursor.specs.Read.{Parses, start};
 ghost use Rattle.parser.specs.Parse.{ParsedIs};
 
 use crate::items::items;
@@ -21,7 +21,7 @@ pub enum ParseError {
 
 // All items from the first token on.
 fn read(source: &Source, nodes: &mut [u8]) -> Cursor
-    ensures { Reads file source.now.text.now source.now.tokens.now start nodes.old result nodes.new }
+    ensures { Parses file source.now start nodes.old result nodes.new }
 {
     let first = Cursor::begin(0, 0, 0, 0);
     items(source, nodes, first)
@@ -34,11 +34,11 @@ pub fn parse(text: &[u8], tokens: &[u8], nodes: &mut [u8]) -> Result<usize, Pars
     let source = Source { text, tokens };
     let p = read(&source, nodes);
     if p.status != Status::Reading {
-        Node::keep(nodes, 0);
+        nodes.fill(0);
         return Err(ParseError::Deep);
     }
     if p.at != Token::room(tokens) {
-        Node::keep(nodes, 0);
+        nodes.fill(0);
         return Err(ParseError::Syntax(p.reached()));
     }
     Node::keep(nodes, p.count);

@@ -5,42 +5,50 @@ mod given;
 mod run;
 mod tree;
 
-use case_io::{Cases, fill, room};
+ghost use Rattle.std.specs.Prelude.{◌≡◌, []};
+
+use case_io::{Case, Cases, answer_all, with_input};
 use std::io;
 use std::io::Write;
 
 fn main(rt: HostRuntime) -> io::Result<()> {
-    let mut file = room::<524288>();
-    let n = fill(&mut rt.stdin(), &mut file)?;
-    answers(&mut rt.stdout(), &file[..n])
+    with_input::<524288, _, _>(&mut rt.stdin(), |file| {
+        answer_all::<Line<'_>, _>(file, &mut rt.stdout())
+    })
 }
 
-fn answers<W: Write>(out: &mut W, file: &[u8]) -> io::Result<()> {
-    let mut cases = Cases { rest: file };
-    while let Some(case) = cases.line() {
-        answer(out, case)?;
-        writeln!(out)?;
+// A case is a line, whose first letter says what it asks. A heading is printed as it stands.
+#[derive(Clone, Copy)]
+struct Line<'a>(&'a [u8]);
+
+impl<'a> Case<'a> for Line<'a> {
+    ghost no_more = { λ rest. rest ≡ [] };
+
+    fn next(cases: &mut Cases<'a>) -> Option<Line<'a>> {
+        cases.line().map(Line)
     }
-    Ok(())
-}
 
-// A heading is printed as it stands.
-fn answer<W: Write>(out: &mut W, case: &[u8]) -> io::Result<()> {
-    match case {
-        [b'p', _, rest @ ..] if !rest.is_empty() => parsing_case(out, Cases { rest }),
-        [b'r', _, rest @ ..] if !rest.is_empty() => run::answer(out, Cases { rest }),
-        _ => out.write_all(case),
+    fn answer<W: Write>(self, out: &mut W) -> io::Result<()> {
+        match self.0 {
+            [b'p', _, rest @ ..] if !rest.is_empty() => parsing_case(out, Cases { rest })?,
+            [b'r', _, rest @ ..] if !rest.is_empty() => run::answer(out, Cases { rest })?,
+            heading => out.write_all(heading)?,
+        }
+        writeln!(out)
     }
 }
 
 // p N T TOKENS TEXT: parsing TEXT with T bytes of token table, whose whole entries TOKENS has, and N bytes of node table.
+// The tables are full of another byte before.
 fn parsing_case<W: Write>(out: &mut W, mut case: Cases<'_>) -> io::Result<()> {
-    let mut space = [0xAAu8; 16384];
-    let node_bytes = case.number();
-    let token_bytes = case.number();
-    let Some(tokens) = space.get_mut(..token_bytes) else {
+    let mut nodes = [0xAA; 16384];
+    let mut tokens = [0xAA; 16384];
+    let (Some(nodes), Some(tokens)) = (
+        nodes.get_mut(..case.number()),
+        tokens.get_mut(..case.number()),
+    ) else {
         return Ok(());
     };
     given::tokens(&mut case, tokens);
-    tree::answer(out, case.rest, tokens, node_bytes)
+    tree::answer(out, case.rest, tokens, nodes)
 }

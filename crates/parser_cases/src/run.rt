@@ -1,56 +1,43 @@
 // A long run of tokens, which are kinds alone: a reader that took the stack for each of them would not end.
-use crate::given::byte;
-use crate::tree::parsed;
-use case_io::{Cases, first};
+use crate::tree;
+use arrayvec::ArrayVec;
+use case_io::{Cases, UsedEntries};
 use std::io;
 use std::io::Write;
 use tables::{Entry, Token};
 
+// The longest run; what goes beyond is left out.
+const MOST: usize = 16384;
+
+type Kinds = ArrayVec<u8, MOST>;
+
 // r N A KINDS B KINDS C KINDS: A kinds, N times B kinds, and C kinds. No node is stored: they are counted.
 pub fn answer<W: Write>(out: &mut W, mut case: Cases<'_>) -> io::Result<()> {
-    let mut tokens = [0u8; 262144];
     let times = case.number();
-    let mut run = Run {
-        tokens: &mut tokens,
-        count: 0,
-    };
-    run.lay(&mut case, 1);
-    run.lay(&mut case, times);
-    run.lay(&mut case, 1);
-    let count = run.count;
-    let laid = first::<Token>(&tokens, count);
-    parsed(out, b"", laid, &mut [])
-}
-
-// A token table, and how many of its entries are laid.
-#[derive(Drop)]
-struct Run<'a> {
-    tokens: &'a mut [u8],
-    count: usize,
-}
-
-impl Run<'_> {
-    // So many kinds, so many times.
-    fn lay(&mut self, case: &mut Cases<'_>, times: usize) {
-        let count = case.number();
-        let kinds = *case;
-        for _ in 0..times {
-            *case = kinds;
-            for _ in 0..count {
-                self.push(byte(case.number()));
-            }
+    let mut all = Kinds::new();
+    for n in [1, times, 1] {
+        let kinds = given(&mut case);
+        for _ in 0..n {
+            all.extend(kinds.iter().copied()).ok();
         }
     }
-
-    // Lays one entry more, if there is room for it.
-    fn push(&mut self, kind: u8) {
-        if self.count < Token::room(self.tokens) {
-            let token = Token {
-                kind,
-                ..Token::default()
-            };
-            token.put(self.tokens, self.count);
-            self.count += 1;
-        }
+    let mut tokens = [0; MOST * Token::SIZE];
+    for (i, kind) in all.iter().enumerate() {
+        let token = Token {
+            kind: *kind,
+            ..Token::default()
+        };
+        token.put(&mut tokens, i);
     }
+    let used = UsedEntries::<Token>::new(&tokens, all.len());
+    tree::answer(out, b"", used.bytes(), &mut [])
+}
+
+// A number, and so many kinds.
+fn given(case: &mut Cases<'_>) -> Kinds {
+    let mut kinds = Kinds::new();
+    for _ in 0..case.number() {
+        kinds.try_push(case.number()).ok();
+    }
+    kinds
 }

@@ -1,5 +1,5 @@
 -- A fixed word at the start of a text, and as the whole of it. Assumes nothing.
-use mathlib.Core.Path.{◌≡◌, refl, sym, ap₂, subst, ◌∙◌}
+use mathlib.Core.Path.{◌≡◌, refl, sym, ap₂, ◌∙◌}
 use mathlib.Core.Bool.{Bool, true, false, ◌&&◌, false≢true}
 use mathlib.Core.List.{List, [], ◌∷◌}
 use Prim.Native.Nat.{ℕ, zero, suc, ◌≤◌, ◌<◌, zero-le}
@@ -7,7 +7,6 @@ use native.Mathlib.Omega.{arith}
 use lib.Dec.{T, eqb, eqb→eq, eqb_refl}
 use lib.ListN.{length, get_or}
 use borrow.Author.Tests.{eq-eqb}
-use lib.Pointwise.{pointwise, bytes_decides}
 use Rattle.std.specs.List.{starts_with}
 use Rattle.patterns.specs.Bytes.{starts, same}
 use Rattle.patterns.proofs.Tests.{T_of, of_T, and_l, and_r, and_t}
@@ -47,7 +46,7 @@ pub same_self : (w : List ℕ) → same w w ≡ true
 unfolding same
 same_self w = of_T _ (and_t (eqb (length w) (length w)) (starts w w) (eqb_refl (length w)) (starts_self w))
 
--- ---- the library's tests
+-- ---- the library's test
 -- two tests that pass alike
 alike : (a b : Bool) → (a ≡ true → b ≡ true) → (b ≡ true → a ≡ true) → a ≡ b
 alike true b f g = sym (f refl)
@@ -63,7 +62,3 @@ starts_alike (a ∷ w) (b ∷ s) =
 
 pub starts_is : {r : Bool} (w s : List ℕ) → r ≡ starts_with eqb s w → r ≡ starts w s
 starts_is w s e = e ∙ starts_alike w s
-
-pub same_equal : {r : Bool} (w s : List ℕ) → r ≡ pointwise eqb s w → r ≡ same w s
-same_equal w s e =
-    e ∙ alike (pointwise eqb s w) (same w s) (λ h. subst (λ (l : List ℕ). same w l ≡ true) (sym ((bytes_decides s w).0 h)) (same_self w)) (λ h. (bytes_decides s w).1 (same_is w s h))

@@ -1,21 +1,13 @@
-// Fixed byte strings, compared with what stands in a text.
+// Byte sets, fixed byte strings and patterns: what the specifications of the crates above share. Of functions it has the one that reads a word in a table.
 #![tactic(auto)]
 
-ghost use Rattle.std.specs.Prelude.{◌≡◌};
-ghost use Rattle.patterns.specs.Bytes.{starts, same};
+ghost use Rattle.std.specs.Prelude.{◌≡◌, length, min, take};
 
-// The text begins with the word.
-#[tactic(auto, using(crate::proofs::Words::starts_is))]
-pub fn starts_with(s: &[u8], w: &[u8]) -> bool
-    ensures { result ≡ starts w.now s.now }
+// A word without what fills its row.
+pub fn spelled<const N: usize>(row: &(u8, [u8; N])) -> &[u8]
+    ensures { result.now ≡ take (min row.now.0 (length row.now.1)) row.now.1 }
 {
-    s.starts_with(w)
-}
-
-// The text is the word.
-#[tactic(auto, using(crate::proofs::Words::same_equal))]
-pub fn is_word(s: &[u8], w: &[u8]) -> bool
-    ensures { result ≡ same w.now s.now }
-{
-    s == w
+    let (size, word) = row;
+    let text = word.as_slice();
+    &text[..(*size as usize).min(text.len())]
 }

@@ -7,8 +7,8 @@ pub mod types;
 ghost use Rattle.grammar.specs.Derive.{rule, expr, stmt, for_step, many, ◌&◌};
 ghost use Rattle.grammar.specs.Kinds.{If, kind_of as node_kind};
 ghost use Rattle.grammar.specs.Grammar.{tok, whole, opt, typed, condition, let_stmt, const_def, action, assigned, finish, for_stmt, for_init, else_part, block_stmt, if_stmt, loop_stmt, while_stmt, return_stmt, statement};
-ghost use Rattle.tables.specs.TokenKinds.{SEMI, kind_of as token_kind};
-ghost use Rattle.cursor.specs.Read.{Reads, Puts, Ends, begun};
+ghost use Rattle.tables.specs.TokenKinds.{EQ, SEMI, kind_of as token_kind};
+ghost use Rattle.cursor.specs.Read.{Parses, Ends, begun};
 
 use crate::let_pattern::pattern;
 use crate::types::type_expr;
@@ -17,9 +17,10 @@ use expressions::expr;
 use grammar::node_kind::NodeKind;
 use tables::token_type::TokenType;
 
+// In a cycle of calls, as `expr` of expressions is.
 #[cycle(statements)]
 fn stmt(source: &Source, nodes: &mut [u8], cursor: Cursor) -> Cursor
-    ensures { Reads (rule stmt) source.now.text.now source.now.tokens.now cursor nodes.old result nodes.new }
+    ensures { Parses (rule stmt) source.now cursor nodes.old result nodes.new }
 {
     if cursor.status != Status::Reading {
         return cursor;
@@ -48,7 +49,7 @@ pub fn stmt_at(
     ensures { Ends statement source.now.text.now source.now.tokens.now (begun at count nest furthest) nodes.old result nodes.new }
 {
     let start = Cursor::begin(at, count, nest, furthest);
-    let k = start.peek(source.tokens);
+    let k = start.peek(source);
     if k.is(TokenType::LBrace) {
         let p = block(source, nodes, start);
         return p.ended_with(false);
@@ -66,18 +67,12 @@ pub fn stmt_at(
         return for_stmt(source, nodes, start);
     }
     if k.is(TokenType::Break) {
-        let p = jump(
-            source.tokens,
-            nodes,
-            start,
-            TokenType::Break,
-            NodeKind::Break,
-        );
+        let p = jump(source, nodes, start, TokenType::Break, NodeKind::Break);
         return p.ended_with(false);
     }
     if k.is(TokenType::Continue) {
         let p = jump(
-            source.tokens,
+            source,
             nodes,
             start,
             TokenType::Continue,
@@ -102,34 +97,41 @@ pub fn stmt_at(
 }
 
 // A word that is a statement by itself: `break` or `continue`.
-fn jump(tokens: &[u8], nodes: &mut [u8], cursor: Cursor, word: TokenType, kind: NodeKind) -> Cursor
-    ensures { Puts (tok (token_kind word) & tok SEMI & whole (node_kind kind)) tokens.now cursor nodes.old result nodes.new }
+fn jump(
+    source: &Source,
+    nodes: &mut [u8],
+    cursor: Cursor,
+    word: TokenType,
+    kind: NodeKind,
+) -> Cursor
+    ensures { Parses (tok (token_kind word) & tok SEMI & whole (node_kind kind)) source.now cursor nodes.old result nodes.new }
 {
-    let p = cursor.take(tokens, word);
-    let p = p.take(tokens, TokenType::Semicolon);
-    p.whole(tokens, nodes, kind)
+    let p = cursor.take(source, word);
+    let p = p.take(source, TokenType::Semicolon);
+    p.whole(source, nodes, kind)
 }
 
 #[cycle(statements)]
 fn block(source: &Source, nodes: &mut [u8], cursor: Cursor) -> Cursor
-    ensures { Reads block_stmt source.now.text.now source.now.tokens.now cursor nodes.old result nodes.new }
+    ensures { Parses block_stmt source.now cursor nodes.old result nodes.new }
 {
     if cursor.status != Status::Reading {
         return cursor;
     }
-    let p = cursor.take(source.tokens, TokenType::LBrace);
+    let p = cursor.take(source, TokenType::LBrace);
     let p = stmts(source, nodes, p);
-    let p = p.take(source.tokens, TokenType::RBrace);
-    p.whole(source.tokens, nodes, NodeKind::Block)
+    let p = p.take(source, TokenType::RBrace);
+    p.whole(source, nodes, NodeKind::Block)
 }
 
+// In a cycle of calls, so a loop of its own: a call that leads back through a trait's method gets no proof.
 #[cycle(statements)]
 pub fn stmts(source: &Source, nodes: &mut [u8], cursor: Cursor) -> Cursor
-    ensures { Reads (many (rule stmt)) source.now.text.now source.now.tokens.now cursor nodes.old result nodes.new }
+    ensures { Parses (many (rule stmt)) source.now cursor nodes.old result nodes.new }
 {
     let mut p = cursor;
     while p.status == Status::Reading {
-        let k = p.peek(source.tokens);
+        let k = p.peek(source);
         if k.is(TokenType::RBrace) {
             return p;
         }
@@ -149,7 +151,7 @@ fn if_stmt(source: &Source, nodes: &mut [u8], cursor: Cursor) -> StmtPart
     if cursor.status != Status::Reading {
         return cursor.ended_with(false);
     }
-    let p = cursor.take(source.tokens, TokenType::If);
+    let p = cursor.take(source, TokenType::If);
     let p = condition(source, nodes, p);
     branches(source, nodes, p)
 }
@@ -172,13 +174,13 @@ fn branches(source: &Source, nodes: &mut [u8], cursor: Cursor) -> StmtPart
     );
     let p = cursor.join(s.part);
     if s.tried {
-        let p = p.whole(source.tokens, nodes, NodeKind::If);
+        let p = p.whole(source, nodes, NodeKind::If);
         return p.ended_with(true);
     }
-    let q = p.take(source.tokens, TokenType::Else);
+    let q = p.take(source, TokenType::Else);
     if q.status == Status::Failed {
         let p = p.rewind(q);
-        let p = p.whole(source.tokens, nodes, NodeKind::If);
+        let p = p.whole(source, nodes, NodeKind::If);
         return p.ended_with(true);
     }
     if q.status != Status::Reading {
@@ -188,10 +190,10 @@ fn branches(source: &Source, nodes: &mut [u8], cursor: Cursor) -> StmtPart
     let q = q.join(t.part);
     if q.status == Status::Failed {
         let p = p.rewind(q);
-        let p = p.whole(source.tokens, nodes, NodeKind::If);
+        let p = p.whole(source, nodes, NodeKind::If);
         return p.ended_with(true);
     }
-    let q = q.whole(source.tokens, nodes, NodeKind::If);
+    let q = q.whole(source, nodes, NodeKind::If);
     q.ended_with(t.tried)
 }
 
@@ -202,7 +204,7 @@ fn loop_stmt(source: &Source, nodes: &mut [u8], cursor: Cursor) -> StmtPart
     if cursor.status != Status::Reading {
         return cursor.ended_with(false);
     }
-    let p = cursor.take(source.tokens, TokenType::Loop);
+    let p = cursor.take(source, TokenType::Loop);
     last_stmt(source, nodes, p, NodeKind::Loop)
 }
 
@@ -213,7 +215,7 @@ fn while_stmt(source: &Source, nodes: &mut [u8], cursor: Cursor) -> StmtPart
     if cursor.status != Status::Reading {
         return cursor.ended_with(false);
     }
-    let p = cursor.take(source.tokens, TokenType::While);
+    let p = cursor.take(source, TokenType::While);
     let p = condition(source, nodes, p);
     last_stmt(source, nodes, p, NodeKind::While)
 }
@@ -225,13 +227,13 @@ fn for_stmt(source: &Source, nodes: &mut [u8], cursor: Cursor) -> StmtPart
     if cursor.status != Status::Reading {
         return cursor.ended_with(false);
     }
-    let p = cursor.take(source.tokens, TokenType::For);
-    let p = p.take(source.tokens, TokenType::LParen);
+    let p = cursor.take(source, TokenType::For);
+    let p = p.take(source, TokenType::LParen);
     let p = for_init(source, nodes, p);
     let p = expr(source, nodes, p);
-    let p = p.take(source.tokens, TokenType::Semicolon);
+    let p = p.take(source, TokenType::Semicolon);
     let p = for_step(source, nodes, p);
-    let p = p.take(source.tokens, TokenType::RParen);
+    let p = p.take(source, TokenType::RParen);
     last_stmt(source, nodes, p, NodeKind::For)
 }
 
@@ -252,19 +254,19 @@ fn last_stmt(source: &Source, nodes: &mut [u8], cursor: Cursor, kind: NodeKind) 
         cursor.furthest,
     );
     let p = cursor.join(s.part);
-    let p = p.whole(source.tokens, nodes, kind);
+    let p = p.whole(source, nodes, kind);
     p.ended_with(s.tried)
 }
 
 // A `let` is read as the statement that it is.
 #[cycle(statements)]
 fn for_init(source: &Source, nodes: &mut [u8], cursor: Cursor) -> Cursor
-    ensures { Reads for_init source.now.text.now source.now.tokens.now cursor nodes.old result nodes.new }
+    ensures { Parses for_init source.now cursor nodes.old result nodes.new }
 {
     if cursor.status != Status::Reading {
         return cursor;
     }
-    let k = cursor.peek(source.tokens);
+    let k = cursor.peek(source);
     if k.is(TokenType::Let) {
         let q = stmt_at(
             source,
@@ -277,15 +279,13 @@ fn for_init(source: &Source, nodes: &mut [u8], cursor: Cursor) -> Cursor
         return cursor.join(q.part);
     }
     let p = cursor.enter();
-    let p = expr(source, nodes, p);
-    let p = assigned(source, nodes, p);
-    let p = p.take(source.tokens, TokenType::Semicolon);
-    let p = finish(source.tokens, nodes, p);
+    let p = assignment_or_expr(source, nodes, p);
     p.leave(cursor)
 }
 
+// As `assignment_or_expr`, but for the semicolon before the node is made, without which it is another grammar.
 fn for_step(source: &Source, nodes: &mut [u8], cursor: Cursor) -> Cursor
-    ensures { Reads (rule for_step) source.now.text.now source.now.tokens.now cursor nodes.old result nodes.new }
+    ensures { Parses (rule for_step) source.now cursor nodes.old result nodes.new }
 {
     if cursor.status != Status::Reading {
         return cursor;
@@ -293,27 +293,29 @@ fn for_step(source: &Source, nodes: &mut [u8], cursor: Cursor) -> Cursor
     let p = cursor.enter();
     let p = expr(source, nodes, p);
     let p = assigned(source, nodes, p);
-    let p = finish(source.tokens, nodes, p);
+    let p = finish(source, nodes, p);
     p.leave(cursor)
 }
 
+// In line for the same reason as `value`.
+#[inline(always)]
 fn assignment_or_expr(source: &Source, nodes: &mut [u8], cursor: Cursor) -> Cursor
-    ensures { Reads (action (tok SEMI)) source.now.text.now source.now.tokens.now cursor nodes.old result nodes.new }
+    ensures { Parses (action (tok SEMI)) source.now cursor nodes.old result nodes.new }
 {
     let p = expr(source, nodes, cursor);
     let p = assigned(source, nodes, p);
-    let p = p.take(source.tokens, TokenType::Semicolon);
-    finish(source.tokens, nodes, p)
+    let p = p.take(source, TokenType::Semicolon);
+    finish(source, nodes, p)
 }
 
 fn assigned(source: &Source, nodes: &mut [u8], cursor: Cursor) -> Cursor
-    ensures { Reads assigned source.now.text.now source.now.tokens.now cursor nodes.old result nodes.new }
+    ensures { Parses assigned source.now cursor nodes.old result nodes.new }
 {
-    let k = cursor.peek(source.tokens);
+    let k = cursor.peek(source);
     if !k.is(TokenType::Eq) {
         return cursor;
     }
-    let p = cursor.take(source.tokens, TokenType::Eq);
+    let p = cursor.take(source, TokenType::Eq);
     let p = expr(source, nodes, p);
     if p.status == Status::Failed {
         return cursor.rewind(p);
@@ -322,24 +324,24 @@ fn assigned(source: &Source, nodes: &mut [u8], cursor: Cursor) -> Cursor
 }
 
 // One part is an expression, two are an assignment.
-fn finish(tokens: &[u8], nodes: &mut [u8], cursor: Cursor) -> Cursor
-    ensures { Puts finish tokens.now cursor nodes.old result nodes.new }
+fn finish(source: &Source, nodes: &mut [u8], cursor: Cursor) -> Cursor
+    ensures { Parses finish source.now cursor nodes.old result nodes.new }
 {
     let p = cursor.alone();
-    let p = p.whole(tokens, nodes, NodeKind::ExprStmt);
+    let p = p.whole(source, nodes, NodeKind::ExprStmt);
     if p.status == Status::Failed {
         let p = cursor.rewind(p);
-        return p.whole(tokens, nodes, NodeKind::Assign);
+        return p.whole(source, nodes, NodeKind::Assign);
     }
     p
 }
 
 fn condition(source: &Source, nodes: &mut [u8], cursor: Cursor) -> Cursor
-    ensures { Reads condition source.now.text.now source.now.tokens.now cursor nodes.old result nodes.new }
+    ensures { Parses condition source.now cursor nodes.old result nodes.new }
 {
-    let p = cursor.take(source.tokens, TokenType::LParen);
+    let p = cursor.take(source, TokenType::LParen);
     let p = expr(source, nodes, p);
-    let p = p.take(source.tokens, TokenType::RParen);
+    let p = p.take(source, TokenType::RParen);
     if p.status == Status::Failed {
         let p = cursor.rewind(p);
         return expr(source, nodes, p);
@@ -348,37 +350,41 @@ fn condition(source: &Source, nodes: &mut [u8], cursor: Cursor) -> Cursor
 }
 
 fn let_stmt(source: &Source, nodes: &mut [u8], cursor: Cursor) -> Cursor
-    ensures { Reads let_stmt source.now.text.now source.now.tokens.now cursor nodes.old result nodes.new }
+    ensures { Parses let_stmt source.now cursor nodes.old result nodes.new }
 {
-    let p = cursor.take(source.tokens, TokenType::Let);
+    let p = cursor.take(source, TokenType::Let);
     let p = pattern(source, nodes, p);
-    let p = typed(source, nodes, p);
-    let p = p.take(source.tokens, TokenType::Eq);
-    let p = expr(source, nodes, p);
-    let p = p.take(source.tokens, TokenType::Semicolon);
-    p.whole(source.tokens, nodes, NodeKind::Let)
+    value(source, nodes, p, NodeKind::Let)
 }
 
 fn const_def(source: &Source, nodes: &mut [u8], cursor: Cursor) -> Cursor
-    ensures { Reads const_def source.now.text.now source.now.tokens.now cursor nodes.old result nodes.new }
+    ensures { Parses const_def source.now cursor nodes.old result nodes.new }
 {
-    let p = cursor.take(source.tokens, TokenType::Const);
-    let p = p.spanned_ident(source.tokens, nodes);
-    let p = typed(source, nodes, p);
-    let p = p.take(source.tokens, TokenType::Eq);
+    let p = cursor.take(source, TokenType::Const);
+    let p = p.spanned_ident(source, nodes);
+    value(source, nodes, p, NodeKind::Const)
+}
+
+// What is bound to a name or a pattern: its type, if it is there, and its value. Out of line, a program's statements take a fifth more instructions.
+#[inline(always)]
+fn value(source: &Source, nodes: &mut [u8], cursor: Cursor, kind: NodeKind) -> Cursor
+    ensures { Parses (typed & tok EQ & rule expr & tok SEMI & whole (node_kind kind)) source.now cursor nodes.old result nodes.new }
+{
+    let p = typed(source, nodes, cursor);
+    let p = p.take(source, TokenType::Eq);
     let p = expr(source, nodes, p);
-    let p = p.take(source.tokens, TokenType::Semicolon);
-    p.whole(source.tokens, nodes, NodeKind::Const)
+    let p = p.take(source, TokenType::Semicolon);
+    p.whole(source, nodes, kind)
 }
 
 fn typed(source: &Source, nodes: &mut [u8], cursor: Cursor) -> Cursor
-    ensures { Reads typed source.now.text.now source.now.tokens.now cursor nodes.old result nodes.new }
+    ensures { Parses typed source.now cursor nodes.old result nodes.new }
 {
-    let k = cursor.peek(source.tokens);
+    let k = cursor.peek(source);
     if !k.is(TokenType::Colon) {
         return cursor;
     }
-    let p = cursor.take(source.tokens, TokenType::Colon);
+    let p = cursor.take(source, TokenType::Colon);
     let p = type_expr(source, nodes, p);
     let p = p.tick();
     if p.status == Status::Failed {
@@ -388,16 +394,16 @@ fn typed(source: &Source, nodes: &mut [u8], cursor: Cursor) -> Cursor
 }
 
 fn return_stmt(source: &Source, nodes: &mut [u8], cursor: Cursor) -> Cursor
-    ensures { Reads return_stmt source.now.text.now source.now.tokens.now cursor nodes.old result nodes.new }
+    ensures { Parses return_stmt source.now cursor nodes.old result nodes.new }
 {
-    let p = cursor.take(source.tokens, TokenType::Return);
+    let p = cursor.take(source, TokenType::Return);
     let p = returned(source, nodes, p);
-    let p = p.take(source.tokens, TokenType::Semicolon);
-    p.whole(source.tokens, nodes, NodeKind::Return)
+    let p = p.take(source, TokenType::Semicolon);
+    p.whole(source, nodes, NodeKind::Return)
 }
 
 fn returned(source: &Source, nodes: &mut [u8], cursor: Cursor) -> Cursor
-    ensures { Reads (opt (rule expr)) source.now.text.now source.now.tokens.now cursor nodes.old result nodes.new }
+    ensures { Parses (opt (rule expr)) source.now cursor nodes.old result nodes.new }
 {
     let p = expr(source, nodes, cursor);
     if p.status == Status::Failed {

@@ -1,16 +1,18 @@
 // Types.
 ghost use Rattle.grammar.specs.Derive.{rule, type, ◌or◌};
 ghost use Rattle.grammar.specs.Grammar.{entries, tuple_type, array_type, size};
-ghost use Rattle.cursor.specs.Read.{Reads, Inside};
+ghost use Rattle.cursor.specs.Read.{Parses, Inside};
 
+use cursor::repeated::many;
 use cursor::{Cursor, Part, Source, Status, deeper};
-use expressions::alloc_types::{pointers, tuple_end};
+use expressions::alloc_types::{Pointer, tuple_end};
 use expressions::expr;
 use grammar::node_kind::NodeKind;
 use tables::token_type::TokenType;
 
+// Written out as in the cycles of calls: a generic wrapper would serve this rule and the item alone.
 pub fn type_expr(source: &Source, nodes: &mut [u8], cursor: Cursor) -> Cursor
-    ensures { Reads (rule type) source.now.text.now source.now.tokens.now cursor nodes.old result nodes.new }
+    ensures { Parses (rule type) source.now cursor nodes.old result nodes.new }
 {
     if cursor.status != Status::Reading {
         return cursor;
@@ -39,77 +41,77 @@ fn type_at(
     ensures { Inside type source.now.text.now source.now.tokens.now at count nest furthest nodes.old result nodes.new }
 {
     let start = Cursor::begin(at, count, nest, furthest);
-    let k = start.peek(source.tokens);
+    let k = start.peek(source);
     if k.is(TokenType::Identifier) {
         let name = source.type_name(start.at);
         let p = start.leaf(
-            source.tokens,
+            source,
             nodes,
             TokenType::Identifier,
             NodeKind::Named,
             name as u64,
         );
-        let p = pointers(source.tokens, nodes, p);
+        let p = many::<Pointer>(source, nodes, p);
         return p.ended();
     }
     let p = base_type(source, nodes, start);
-    let p = pointers(source.tokens, nodes, p);
+    let p = many::<Pointer>(source, nodes, p);
     p.ended()
 }
 
 // An array or a tuple.
 #[cycle(types)]
 fn base_type(source: &Source, nodes: &mut [u8], cursor: Cursor) -> Cursor
-    ensures { Reads (array_type or tuple_type type) source.now.text.now source.now.tokens.now cursor nodes.old result nodes.new }
+    ensures { Parses (array_type or tuple_type type) source.now cursor nodes.old result nodes.new }
 {
     if cursor.status != Status::Reading {
         return cursor;
     }
-    let k = cursor.peek(source.tokens);
+    let k = cursor.peek(source);
     if k.is(TokenType::LBrack) {
         return array_type(source, nodes, cursor);
     }
-    let p = cursor.take(source.tokens, TokenType::LParen);
+    let p = cursor.take(source, TokenType::LParen);
     let p = type_entries(source, nodes, p);
-    tuple_end(source.tokens, nodes, p)
+    tuple_end(source, nodes, p)
 }
 
 #[cycle(types)]
 fn array_type(source: &Source, nodes: &mut [u8], cursor: Cursor) -> Cursor
-    ensures { Reads array_type source.now.text.now source.now.tokens.now cursor nodes.old result nodes.new }
+    ensures { Parses array_type source.now cursor nodes.old result nodes.new }
 {
     if cursor.status != Status::Reading {
         return cursor;
     }
-    let p = cursor.take(source.tokens, TokenType::LBrack);
+    let p = cursor.take(source, TokenType::LBrack);
     if p.status != Status::Reading {
         return p;
     }
     let q = type_at(source, nodes, p.at, p.count, deeper(p.nest), p.furthest);
     let p = p.join(q);
-    let p = p.take(source.tokens, TokenType::Semicolon);
+    let p = p.take(source, TokenType::Semicolon);
     let p = array_size(source, nodes, p);
-    let p = p.take(source.tokens, TokenType::RBrack);
-    p.whole(source.tokens, nodes, NodeKind::FixedArray)
+    let p = p.take(source, TokenType::RBrack);
+    p.whole(source, nodes, NodeKind::FixedArray)
 }
 
 // An expression that is exactly a numeral without a suffix.
 fn array_size(source: &Source, nodes: &mut [u8], cursor: Cursor) -> Cursor
-    ensures { Reads size source.now.text.now source.now.tokens.now cursor nodes.old result nodes.new }
+    ensures { Parses size source.now cursor nodes.old result nodes.new }
 {
     let e = expr(source, nodes, cursor);
     if e.status != Status::Reading {
         return e;
     }
     let p = cursor.outside();
-    let p = p.count(source.tokens, nodes);
+    let p = p.count(source, nodes);
     p.agree(e, cursor.nest)
 }
 
 // As in expressions, a loop of its own: a call that leads back through a trait's method gets no proof.
 #[cycle(types)]
 fn type_entries(source: &Source, nodes: &mut [u8], cursor: Cursor) -> Cursor
-    ensures { Reads (entries (rule type)) source.now.text.now source.now.tokens.now cursor nodes.old result nodes.new }
+    ensures { Parses (entries (rule type)) source.now cursor nodes.old result nodes.new }
 {
     if cursor.status != Status::Reading {
         return cursor;
@@ -127,7 +129,7 @@ fn type_entries(source: &Source, nodes: &mut [u8], cursor: Cursor) -> Cursor
         return cursor.rewind(p);
     }
     while p.status == Status::Reading {
-        let q = p.take(source.tokens, TokenType::Comma);
+        let q = p.take(source, TokenType::Comma);
         if q.status == Status::Failed {
             return p.rewind(q);
         }

@@ -1,8 +1,8 @@
 -- Entries stored and read as a whole. Assumes nothing.
-use mathlib.Core.Path.{◌≡◌, refl, sym, ap, ap₂, ◌∙◌}
+use mathlib.Core.Path.{◌≡◌, refl, sym, ap, ap₂, subst, ◌∙◌}
 use mathlib.Core.List.{List, [], ◌∷◌, ◌++◌, append_assoc, append-nil}
 use Prim.Native.Nat.{ℕ, zero, suc, ◌+◌, ◌-◌, ◌*◌, ◌/◌, ◌≤◌, ◌<◌, min}
-use native.Mathlib.Nat.{zero-mul, suc-mul, add_comm}
+use native.Mathlib.Nat.{le-div_iff_mul-le, zero-mul, suc-mul, add_comm}
 use native.Mathlib.Omega.{arith}
 use native.Mathlib.Decide.{dec_lt}
 use borrow.Author.Tests.{lt-ltb, le-ltb}
@@ -10,7 +10,7 @@ use borrow.Rule.Slice.PartMut.{put_mid}
 use denote.Ref.{Bor}
 use lib.ListN.{length, get_or, take, drop, replicate, length-drop, length-take}
 use lib.Seq.{sets, sets-eq, drop-drop, drop-length, take_all}
-use Rattle.std.proofs.lemmas.List.{take_more, take_min}
+use Rattle.std.proofs.lemmas.List.{take_more}
 use Rattle.std.specs.Prelude.{MatchOption, Option}
 use Rattle.std.specs.declared.option.Option.TheVariants.{Some, None}
 use Rattle.std.specs.Ordering.{ord_min, nat_cmp, is_lt}
@@ -79,15 +79,18 @@ least a b =
     go false h = omega arith
 
 -- zeros over the rest
-pub zeros_part : (at : ℕ) (t u : List ℕ) {m : ℕ} → m ≡ ord_min nat_cmp at (length t) → u ≡ replicate (length (take (length t - m) (drop m t))) 0 → put_mid m (length t - m) t u ≡ cleared at t
+pub zeros_part : (m : ℕ) (t u : List ℕ) → m ≤ length t → u ≡ replicate (length (take (length t - m) (drop m t))) 0 → put_mid m (length t - m) t u ≡ cleared m t
 unfolding cleared
-zeros_part at t u {m} f e =
-    let i : m ≡ min at (length t) = f ∙ least at (length t) in
-    let n : length (take (length t - m) (drop m t)) ≡ length t - at = omega (arith, length-take (length t - m) (drop m t), length-drop m t) in
+zeros_part m t u h e =
+    let n : length (take (length t - m) (drop m t)) ≡ length t - m = omega (arith, length-take (length t - m) (drop m t), length-drop m t) in
     let end : m + (length t - m) ≡ length t = omega arith in
-    rw (e, n, drop-drop (length t - m) m t, end, drop-length t) (ap₂ ◌++◌ (ap (λ (k : ℕ). take k t) i ∙ take_min at t) (append-nil (replicate (length t - at) 0)))
+    rw (e, n, drop-drop (length t - m) m t, end, drop-length t) (ap (take m t ++◌) (append-nil (replicate (length t - m) 0)))
 
 -- all but the first of them cleared
-pub kept_some_of : (w k : ℕ) (t : List ℕ) {u : List ℕ} {n z r : ℕ} → z ≡ w → r ≡ length t / w → n ≡ ord_min nat_cmp k r → u ≡ cleared (n * z) t → u ≡ kept w k t
+pub kept_some_of : (w k : ℕ) (t u : List ℕ) {n z r : ℕ} → 0 < w → z ≡ w → r ≡ length t / w → n ≡ ord_min nat_cmp k r → u ≡ replicate (length (take (length t - n * z) (drop (n * z) t))) 0
+    → put_mid (n * z) (length t - n * z) t u ≡ kept w k t
 unfolding kept
-kept_some_of w k t e f g h = h ∙ ap (λ (m : ℕ). cleared m t) (ap₂ ◌*◌ (g ∙ least k _ ∙ ap (min k) f) e)
+kept_some_of w k t u {n} {z} {r} s e f g h =
+    let i : n ≡ min k (length t / w) = g ∙ least k _ ∙ ap (min k) f in
+    let within : n * w ≤ length t = (le-div_iff_mul-le {k = w} s).0 (omega arith) in
+    zeros_part (n * z) t u (subst (λ (m : ℕ). n * m ≤ length t) (sym e) within) h ∙ ap (λ (m : ℕ). cleared m t) (ap₂ ◌*◌ i e)

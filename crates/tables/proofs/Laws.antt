@@ -2,14 +2,13 @@
 use mathlib.Core.Path.{◌≡◌, refl, sym, ap, ap₂, subst, ◌∙◌}
 use mathlib.Core.List.{List, [], ◌∷◌, ◌++◌, append_assoc, append-nil}
 use Prim.Native.Nat.{ℕ, zero, suc, ◌+◌, ◌-◌, ◌*◌, ◌/◌, ◌%◌, ◌^◌, ◌≤◌, ◌<◌, min, zero-le}
-use native.Mathlib.Nat.{zero-mul, mul-zero, suc-mul, add_comm, add-zero, add-suc, suc-add, sub-zero, div-zero, mod-add-div, div-div-eq-div-mul, mul-le-mul_right, le-div_iff_mul-le, le_refl}
-use native.Mathlib.Numerals.{add-one, towards_suc}
+use native.Mathlib.Nat.{zero-mul, suc-mul, add_comm, add-zero, add-suc, suc-add, sub-zero, div-zero, mod-add-div, div-div-eq-div-mul, mul-le-mul_right, le-div_iff_mul-le, le_refl}
 use native.Mathlib.Omega.{arith}
 use native.Mathlib.Decide.{dec_lt}
-use lib.ListN.{length, get_or, take, drop, set, replicate, length-append, length-take, length-drop, length-replicate, length-set, get_or-eq_default}
-use lib.Seq.{take-nil, take_all, take-append-le, take-append-add, drop-append-add, take_at, drop_at, drop-drop, sets, sets-eq, take-suc-set, get_or-take, get_or-drop, ext_get_or}
-use borrow.Author.Tests.{lt-ltb, le-ltb, le-leb, lt-leb}
-use Rattle.tables.specs.Tables.{Token, Node, Diagnostic, le16, le64, encode_token, encode_node, encode_diagnostic, joined, filled, table, laid, stored, cleared, kept, number, entry_at, decode_token, decode_node, decode_diagnostic, token_at, node_at, diagnostic_at, token_table, node_table, diagnostic_table, tabulate, tokens_of}
+use lib.ListN.{length, get_or, take, drop, set, replicate, length-append, length-take, length-drop, length-replicate, get_or-eq_default}
+use lib.Seq.{take-nil, take_all, take-append-le, take-append-add, drop-append-add, take_at, drop_at, drop-drop, sets, sets-eq, get_or-take, get_or-drop, ext_get_or}
+use borrow.Author.Tests.{lt-ltb, le-ltb}
+use Rattle.tables.specs.Tables.{Token, Node, Diagnostic, le16, le64, encode_token, encode_node, encode_diagnostic, joined, filled, table, laid, stored, cleared, kept, number, entry_at, decode_token, decode_node, token_at, node_at, token_table, node_table, tabulate, tokens_of}
 
 abbrev zeros : ℕ → List ℕ
 zeros n = replicate n 0
@@ -169,6 +168,10 @@ diagnostic_size d = refl
 pub cleared_all : (t : List ℕ) → cleared 0 t ≡ zeros (length t)
 unfolding cleared
 cleared_all t = ap zeros (sub-zero (length t))
+
+-- a table that was filled with zeros
+pub filled_zero : (t : List ℕ) {u : List ℕ} → u ≡ zeros (length t) → u ≡ cleared 0 t
+filled_zero t e = e ∙ sym (cleared_all t)
 
 -- ---- reading an entry
 -- entry i is within n bytes

@@ -1,3 +1,5 @@
 pub mod Laws
 pub mod Suffix
 pub mod Entries
+pub mod Left
+pub mod Numbered

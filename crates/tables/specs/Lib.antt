@@ -2,3 +2,4 @@ pub mod Tables
 pub mod TokenKinds
 pub mod Suffix
 pub mod Codes
+pub mod Left

@@ -50,7 +50,7 @@ fn is_four(b: u8, d: u8, e: u8, f: u8) -> bool
         && (b < 0xF4 || b == 0xF4 && d < 0x90)
 }
 
-// The whole text is UTF-8.
+// The whole text is UTF-8, by the rows of the RFC. What `str::from_utf8` takes is by the library's own definition.
 pub fn is_utf8(text: &[u8]) -> bool
     ensures { IsUtf8 text.now result }
 {

@@ -7,10 +7,10 @@ pub read_tokens-answer-requires-clause-unknown_value : goal.read_tokens-answer-r
 read_tokens-answer-requires-clause-unknown_value c = unknown_in (takes c.in-Ok.ensures) refl
 
 pub returns-then-is_err : goal.returns-then-is_err
-returns-then-is_err c = reads_refused (takes c.in-Ok.ensures) c.read_tokens-answer.ensures refl (search rules) c.clear_from.ensures (search rules)
+returns-then-is_err c = reads_refused (takes c.in-Ok.ensures) c.read_tokens-answer.ensures refl (search rules) (c.fill.ensures.after (λ y e. e)) (search rules)
 
 pub returns-else-is_err : goal.returns-else-is_err
 returns-else-is_err c = reads_accepted (takes c.in-Ok.ensures) c.read_tokens-answer.ensures refl (search rules)
 
 pub returns-in-Err : goal.returns-in-Err
-returns-in-Err c = refuses c.in-Err.ensures c.into.ensures _ c.clear_from-in-Err.ensures (search rules)
+returns-in-Err c = refuses c.in-Err.ensures c.into.ensures _ (c.fill-in-Err.ensures.after (λ y e. e)) (search rules)

@@ -1,5 +1,5 @@
 -- The cycle of readers `expressions` meets its contract. Assumes nothing.
-use Rattle.cursor.proofs.Reading.{refl, ◌∙◌, arith, body, same, not_same, differs, no_other, of_kind, not_of_kind, idle, one_put, one_grown, one_step, ◌then◌, first, other, only, pass, by_part, inside_by, as_deep, nothing, reads_as, on, on_put, on_grown, on_step, at_here, at_begin, at_rule, at_back, ◌and_on◌, was, further, lower, fell, rounds_next, rounds_end, rounds_miss, rounds_off, leading_first, leading_next, leading_end, leading_off, listing_next, listing_none, listing_miss, listing_off, regroup, share, element, no_element, many_never, opt_never, and_never, at_operand, just_entered, reading_in, unary_deep, unary_reads, on_operator, climbing_more, climbed, climbed_over, no_operator, name_alone, numeral_alone}
+use Rattle.cursor.proofs.Reading.{refl, ◌∙◌, arith, body, same, not_same, differs, no_other, of_kind, not_of_kind, idle, one_grown, one_step, ◌then◌, first, other, only, pass, by_part, inside_by, as_deep, nothing, reads_as, on, on_grown, on_step, at_here, at_begin, at_rule, at_back, ◌and_on◌, was, further, lower, fell, rounds_next, rounds_end, rounds_miss, rounds_off, listing_next, listing_none, listing_miss, listing_off, regroup, share, element, no_element, many_never, opt_never, and_never, at_operand, just_entered, reading_in, unary_deep, unary_reads, on_operator, climbing_more, climbed, climbed_over, no_operator, name_alone, numeral_alone}
 use Rattle.grammar.specs.Derive as G
 use Rattle.expressions.proofs.+expressions.Goals as goal
 
@@ -28,16 +28,16 @@ pub array-expr-e-requires : goal.array-expr-e-requires
 array-expr-e-requires t c = (further 30 6 c.decreases (no_other c.if-ne.ensures) (on_step c.take-p.ensures) tt (omega arith), tt)
 
 pub array-returns-then-eq : goal.array-returns-then-eq
-array-returns-then-eq t c = share (one_step c.take-p.ensures) (no_element c.expr-e.ensures (same c.if-eq.ensures) c.rewind-p.ensures ((one_step c.take-q.ensures) then (one_put c.whole.ensures)))
+array-returns-then-eq t c = share (one_step c.take-p.ensures) (no_element c.expr-e.ensures (same c.if-eq.ensures) c.rewind-p.ensures ((one_step c.take-q.ensures) then c.whole.ensures))
 
 pub array-returns-then-is : goal.array-returns-then-is
-array-returns-then-is t c = share (one_step c.take-p.ensures) (element (and_never many_never opt_never) c.expr-e.ensures (not_same c.if-eq.ensures) (only c.peek-k.ensures (of_kind c.if-is.ensures) tt ((one_step c.take-q-then-is.ensures) then (one_put c.repeat_end.ensures))))
+array-returns-then-is t c = share (one_step c.take-p.ensures) (element (and_never many_never opt_never) c.expr-e.ensures (not_same c.if-eq.ensures) (only c.peek-k.ensures (of_kind c.if-is.ensures) tt ((one_step c.take-q-then-is.ensures) then c.repeat_end.ensures)))
 
 pub array-exprs-q-requires : goal.array-exprs-q-requires
 array-exprs-q-requires t c = (further 3 6 c.decreases (no_other c.if-ne.ensures) (on_step c.take-p.ensures and_on on c.expr-e.ensures) tt (omega arith), tt)
 
 pub array-returns : goal.array-returns
-array-returns t c = share (one_step c.take-p.ensures) (element (and_never many_never opt_never) c.expr-e.ensures (not_same c.if-eq.ensures) (pass c.peek-k.ensures ((not_of_kind c.if-is.ensures), tt) tt ((c.exprs-q.ensures then (one_step c.skip-q.ensures)) then (one_step c.take-q-2.ensures) then (one_put c.whole-2.ensures))))
+array-returns t c = share (one_step c.take-p.ensures) (element (and_never many_never opt_never) c.expr-e.ensures (not_same c.if-eq.ensures) (pass c.peek-k.ensures ((not_of_kind c.if-is.ensures), tt) tt ((c.exprs-q.ensures then (one_step c.skip-q.ensures)) then (one_step c.take-q-2.ensures) then c.whole-2.ensures)))
 
 pub atom-struct_literal-p-requires : goal.atom-struct_literal-p-requires
 atom-struct_literal-p-requires t c = (lower 6 7 c.decreases (no_other c.if-ne.ensures) at_here (omega arith), tt)
@@ -46,16 +46,16 @@ pub atom-returns-then-ne-2 : goal.atom-returns-then-ne-2
 atom-returns-then-ne-2 t c = pass c.peek-k.ensures (omega (arith, (of_kind c.if-is.ensures))) tt (pass c.peek-k.ensures (omega (arith, (of_kind c.if-is.ensures))) tt (pass c.peek-k.ensures (omega (arith, (of_kind c.if-is.ensures))) tt (pass c.peek-k.ensures (omega (arith, (of_kind c.if-is.ensures))) tt (first c.struct_literal-p.ensures (differs c.if-ne-2.ensures)))))
 
 pub atom-returns-then-is : goal.atom-returns-then-is
-atom-returns-then-is t c = pass c.peek-k.ensures (omega (arith, (of_kind c.if-is.ensures))) tt (pass c.peek-k.ensures (omega (arith, (of_kind c.if-is.ensures))) tt (pass c.peek-k.ensures (omega (arith, (of_kind c.if-is.ensures))) tt (pass c.peek-k.ensures (omega (arith, (of_kind c.if-is.ensures))) tt (other c.struct_literal-p.ensures (no_other c.if-ne-2.ensures) refl (pass c.peek-k.ensures (omega (arith, (of_kind c.if-is.ensures))) tt (pass c.peek-k.ensures (omega (arith, (of_kind c.if-is.ensures))) tt (only c.peek-k.ensures (of_kind c.if-is.ensures) tt (reads_as c.rewind-p.ensures (one_put c.leaf.ensures)))))))))
+atom-returns-then-is t c = pass c.peek-k.ensures (omega (arith, (of_kind c.if-is.ensures))) tt (pass c.peek-k.ensures (omega (arith, (of_kind c.if-is.ensures))) tt (pass c.peek-k.ensures (omega (arith, (of_kind c.if-is.ensures))) tt (pass c.peek-k.ensures (omega (arith, (of_kind c.if-is.ensures))) tt (other c.struct_literal-p.ensures (no_other c.if-ne-2.ensures) refl (pass c.peek-k.ensures (omega (arith, (of_kind c.if-is.ensures))) tt (pass c.peek-k.ensures (omega (arith, (of_kind c.if-is.ensures))) tt (only c.peek-k.ensures (of_kind c.if-is.ensures) tt (reads_as c.rewind-p.ensures c.leaf.ensures))))))))
 
 pub atom-returns-then-is-2 : goal.atom-returns-then-is-2
-atom-returns-then-is-2 t c = only c.peek-k.ensures (of_kind c.if-is-2.ensures) tt (one_put c.literal.ensures)
+atom-returns-then-is-2 t c = only c.peek-k.ensures (of_kind c.if-is-2.ensures) tt c.literal.ensures
 
 pub atom-returns-then-is-3 : goal.atom-returns-then-is-3
-atom-returns-then-is-3 t c = pass c.peek-k.ensures ((not_of_kind c.if-is-2.ensures), tt) tt (only c.peek-k.ensures (of_kind c.if-is-3.ensures) tt (one_put c.leaf-then-is-3.ensures))
+atom-returns-then-is-3 t c = pass c.peek-k.ensures ((not_of_kind c.if-is-2.ensures), tt) tt (only c.peek-k.ensures (of_kind c.if-is-3.ensures) tt c.leaf-then-is-3.ensures)
 
 pub atom-returns-then-is-4 : goal.atom-returns-then-is-4
-atom-returns-then-is-4 t c = pass c.peek-k.ensures ((not_of_kind c.if-is-2.ensures), tt) tt (pass c.peek-k.ensures ((not_of_kind c.if-is-3.ensures), tt) tt (only c.peek-k.ensures (of_kind c.if-is-4.ensures) tt (one_put c.leaf-then-is-4.ensures)))
+atom-returns-then-is-4 t c = pass c.peek-k.ensures ((not_of_kind c.if-is-2.ensures), tt) tt (pass c.peek-k.ensures ((not_of_kind c.if-is-3.ensures), tt) tt (only c.peek-k.ensures (of_kind c.if-is-4.ensures) tt c.leaf-then-is-4.ensures))
 
 pub atom-new_expr-requires : goal.atom-new_expr-requires
 atom-new_expr-requires t c = (lower 6 7 c.decreases (no_other c.if-ne.ensures) at_here (omega arith), tt)
@@ -119,10 +119,10 @@ pub exprs-returns : goal.exprs-returns
 exprs-returns t c = rounds_off c.loop-p.invariant (not_same c.loop-p-test.ensures)
 
 pub field-expr-requires : goal.field-expr-requires
-field-expr-requires t c = (further 30 5 c.decreases (no_other c.if-ne.ensures) (on_put c.spanned_ident-p.ensures and_on on_step c.take-p.ensures) tt (omega arith), tt)
+field-expr-requires t c = (further 30 5 c.decreases (no_other c.if-ne.ensures) (on c.spanned_ident-p.ensures and_on on_step c.take-p.ensures) tt (omega arith), tt)
 
 pub field-returns : goal.field-returns
-field-returns t c = (one_put c.spanned_ident-p.ensures) then (one_step c.take-p.ensures) then c.expr.ensures
+field-returns t c = c.spanned_ident-p.ensures then (one_step c.take-p.ensures) then c.expr.ensures
 
 pub level-level_at-q-requires : goal.level-level_at-q-requires
 level-level_at-q-requires t c = (lower 19 20 c.decreases (no_other c.if-ne.ensures) (at_rule (no_other c.if-ne.ensures)) (omega arith), tt)
@@ -133,9 +133,9 @@ level-returns t c = by_part (G.level _) (as_deep refl) (no_other c.if-ne.ensures
 pub level_at-unary-p-requires : goal.level_at-unary-p-requires
 level_at-unary-p-requires t c = (lower 10 19 c.decreases refl (at_begin c.begin-start.ensures) (omega arith), tt)
 
-pub level_at-returns-then-not-is_among : goal.level_at-returns-then-not-is_among
+pub level_at-returns-then-not-is_binary_op : goal.level_at-returns-then-not-is_binary_op
 unfolding body
-level_at-returns-then-not-is_among t c = inside_by c.begin-start.ensures (climbed_over _ c.begin-start.ensures c.loop-i.invariant c.peek-k.ensures (no_operator c.if-not-is_among.ensures) (c.unary-p.ensures then c.casts-p.ensures)) c.ended.ensures
+level_at-returns-then-not-is_binary_op t c = inside_by c.begin-start.ensures (climbed_over _ c.begin-start.ensures c.loop-i.invariant c.peek-k.ensures (no_operator c.if-not-is_binary_op.ensures) (c.unary-p.ensures then c.casts-p.ensures)) c.ended.ensures
 
 pub level_at-chain-p-requires : goal.level_at-chain-p-requires
 level_at-chain-p-requires t c = (further 3 19 c.decreases refl (at_begin c.begin-start.ensures and_on on c.unary-p.ensures and_on on c.casts-p.ensures and_on c.loop-i.invariant.on) tt (omega arith), tt)
@@ -151,22 +151,22 @@ pub new_expr-expr-p-requires : goal.new_expr-expr-p-requires
 new_expr-expr-p-requires t c = (further 30 6 c.decreases (no_other c.if-ne.ensures) (on_step c.take-p.ensures and_on on c.alloc_type_expr-p.ensures and_on on_step c.take-p-2.ensures) tt (omega arith), tt)
 
 pub new_expr-returns : goal.new_expr-returns
-new_expr-returns t c = (one_step c.take-p.ensures) then c.alloc_type_expr-p.ensures then (one_step c.take-p-2.ensures) then c.expr-p.ensures then (one_step c.take-p-3.ensures) then (one_put c.whole.ensures)
+new_expr-returns t c = (one_step c.take-p.ensures) then c.alloc_type_expr-p.ensures then (one_step c.take-p-2.ensures) then c.expr-p.ensures then (one_step c.take-p-3.ensures) then c.whole.ensures
 
 pub paren_or_tuple-returns-then-is : goal.paren_or_tuple-returns-then-is
-paren_or_tuple-returns-then-is t c = (one_step c.take-p.ensures) then (only c.peek-k.ensures (of_kind c.if-is.ensures) tt ((one_step c.take-q.ensures) then (one_put c.whole.ensures)))
+paren_or_tuple-returns-then-is t c = (one_step c.take-p.ensures) then (only c.peek-k.ensures (of_kind c.if-is.ensures) tt ((one_step c.take-q.ensures) then c.whole.ensures))
 
 pub paren_or_tuple-expr-p-requires : goal.paren_or_tuple-expr-p-requires
 paren_or_tuple-expr-p-requires t c = (further 30 6 c.decreases (no_other c.if-ne.ensures) (on_step c.take-p.ensures) tt (omega arith), tt)
 
 pub paren_or_tuple-returns-then-ne-2 : goal.paren_or_tuple-returns-then-ne-2
-paren_or_tuple-returns-then-ne-2 t c = (one_step c.take-p.ensures) then (pass c.peek-k.ensures ((not_of_kind c.if-is.ensures), tt) tt (c.expr-p.ensures then first ((one_step c.take-q-2.ensures) then (one_put c.whole-q.ensures)) (differs c.if-ne-2.ensures)))
+paren_or_tuple-returns-then-ne-2 t c = (one_step c.take-p.ensures) then (pass c.peek-k.ensures ((not_of_kind c.if-is.ensures), tt) tt (c.expr-p.ensures then first ((one_step c.take-q-2.ensures) then c.whole-q.ensures) (differs c.if-ne-2.ensures)))
 
 pub paren_or_tuple-exprs-q-requires : goal.paren_or_tuple-exprs-q-requires
 paren_or_tuple-exprs-q-requires t c = (further 3 6 c.decreases (no_other c.if-ne.ensures) (on_step c.take-p.ensures and_on on c.expr-p.ensures and_on at_back c.rewind-p.ensures) tt (omega arith), tt)
 
 pub paren_or_tuple-returns : goal.paren_or_tuple-returns
-paren_or_tuple-returns t c = (one_step c.take-p.ensures) then (pass c.peek-k.ensures ((not_of_kind c.if-is.ensures), tt) tt (c.expr-p.ensures then other ((one_step c.take-q-2.ensures) then (one_put c.whole-q.ensures)) (no_other c.if-ne-2.ensures) c.rewind-p.ensures (c.exprs-q.ensures then (one_step c.skip-q.ensures) then (one_step c.take-q-3.ensures) then (one_put c.whole-2.ensures))))
+paren_or_tuple-returns t c = (one_step c.take-p.ensures) then (pass c.peek-k.ensures ((not_of_kind c.if-is.ensures), tt) tt (c.expr-p.ensures then other ((one_step c.take-q-2.ensures) then c.whole-q.ensures) (no_other c.if-ne-2.ensures) c.rewind-p.ensures (c.exprs-q.ensures then (one_step c.skip-q.ensures) then (one_step c.take-q-3.ensures) then c.whole-2.ensures)))
 
 pub postfix_op-arguments-p-requires : goal.postfix_op-arguments-p-requires
 postfix_op-arguments-p-requires t c = (further 31 4 c.decreases (no_other c.if-ne.ensures) (on_step c.take-p.ensures) tt (omega arith), tt)
@@ -175,10 +175,10 @@ pub postfix_op-returns-then-is : goal.postfix_op-returns-then-is
 postfix_op-returns-then-is t c = only c.peek-k.ensures (of_kind c.if-is.ensures) tt ((one_step c.take-p.ensures) then c.arguments-p.ensures then (one_step c.take-p-then-is.ensures) then (one_grown c.called.ensures))
 
 pub postfix_op-returns-then-ne-2 : goal.postfix_op-returns-then-ne-2
-postfix_op-returns-then-ne-2 t c = pass c.peek-k.ensures ((not_of_kind c.if-is.ensures), tt) tt (regroup (only c.peek-k.ensures (of_kind c.if-is-2.ensures) tt (share (one_step c.take-p-then-is-2.ensures) (first ((one_step c.index-q.ensures) then (one_put c.suffixed-q.ensures)) (differs c.if-ne-2.ensures)))))
+postfix_op-returns-then-ne-2 t c = pass c.peek-k.ensures ((not_of_kind c.if-is.ensures), tt) tt (regroup (only c.peek-k.ensures (of_kind c.if-is-2.ensures) tt (share (one_step c.take-p-then-is-2.ensures) (first ((one_step c.index-q.ensures) then c.suffixed-q.ensures) (differs c.if-ne-2.ensures)))))
 
 pub postfix_op-returns-then-is-2 : goal.postfix_op-returns-then-is-2
-postfix_op-returns-then-is-2 t c = pass c.peek-k.ensures ((not_of_kind c.if-is.ensures), tt) tt (regroup (only c.peek-k.ensures (of_kind c.if-is-2.ensures) tt (share (one_step c.take-p-then-is-2.ensures) (other ((one_step c.index-q.ensures) then (one_put c.suffixed-q.ensures)) (no_other c.if-ne-2.ensures) c.rewind-p.ensures ((one_put c.spanned_ident-q.ensures) then (one_grown c.operands.ensures))))))
+postfix_op-returns-then-is-2 t c = pass c.peek-k.ensures ((not_of_kind c.if-is.ensures), tt) tt (regroup (only c.peek-k.ensures (of_kind c.if-is-2.ensures) tt (share (one_step c.take-p-then-is-2.ensures) (other ((one_step c.index-q.ensures) then c.suffixed-q.ensures) (no_other c.if-ne-2.ensures) c.rewind-p.ensures (c.spanned_ident-q.ensures then (one_grown c.operands.ensures))))))
 
 pub postfix_op-returns-then-ne-3 : goal.postfix_op-returns-then-ne-3
 postfix_op-returns-then-ne-3 t c = pass c.peek-k.ensures ((not_of_kind c.if-is.ensures), tt) tt (pass c.peek-k.ensures ((not_of_kind c.if-is-2.ensures), tt) tt (pass c.peek-k.ensures ((not_of_kind c.if-is-2.ensures), tt) tt ((one_step c.take-p-2.ensures) then idle (differs c.if-ne-3.ensures) then idle (differs c.if-ne-3.ensures) then idle (differs c.if-ne-3.ensures))))
@@ -190,37 +190,31 @@ pub postfix_op-returns : goal.postfix_op-returns
 postfix_op-returns t c = pass c.peek-k.ensures ((not_of_kind c.if-is.ensures), tt) tt (pass c.peek-k.ensures ((not_of_kind c.if-is-2.ensures), tt) tt (pass c.peek-k.ensures ((not_of_kind c.if-is-2.ensures), tt) tt ((one_step c.take-p-2.ensures) then c.expr-p.ensures then (one_step c.take-p-3.ensures) then (one_grown c.operands-2.ensures))))
 
 pub postfixed-atom-p-requires : goal.postfixed-atom-p-requires
-postfixed-atom-p-requires t c = (lower 7 8 c.decreases (no_other c.if-ne.ensures) c.loop-first.invariant.on (omega arith), tt)
-
-pub postfixed-loop-first-smaller-then-first : goal.postfixed-loop-first-smaller-then-first
-postfixed-loop-first-smaller-then-first t c = further 0 0 refl (same c.loop-first-test.ensures) (on c.atom-p.ensures) tt (omega arith)
-
-pub postfixed-loop-first-preserved-then-first : goal.postfixed-loop-first-preserved-then-first
-postfixed-loop-first-preserved-then-first t c = leading_first c.loop-first.invariant c.if-first.true c.atom-p.ensures c.atom-p.auto.nodes
+postfixed-atom-p-requires t c = (lower 7 8 c.decreases (no_other c.if-ne.ensures) at_here (omega arith), tt)
 
 pub postfixed-postfix_op-q-requires : goal.postfixed-postfix_op-q-requires
-postfixed-postfix_op-q-requires t c = (lower 4 8 c.decreases (no_other c.if-ne.ensures) c.loop-first.invariant.on (omega arith), tt)
+postfixed-postfix_op-q-requires t c = (further 4 8 c.decreases (no_other c.if-ne.ensures) (on c.atom-p.ensures and_on c.loop-nodes.invariant.on) tt (omega arith), tt)
 
 pub postfixed-returns-then-eq : goal.postfixed-returns-then-eq
-postfixed-returns-then-eq t c = leading_end c.loop-first.invariant c.if-first.false (same c.loop-first-test.ensures) c.postfix_op-q.ensures (same c.if-eq.ensures) c.rewind.ensures
+postfixed-returns-then-eq t c = c.atom-p.ensures then rounds_end c.loop-nodes.invariant (same c.loop-nodes-test.ensures) c.postfix_op-q.ensures (same c.if-eq.ensures) c.rewind.ensures
 
-pub postfixed-loop-first-smaller : goal.postfixed-loop-first-smaller
-postfixed-loop-first-smaller t c = further 0 0 refl (same c.loop-first-test.ensures) (on c.postfix_op-q.ensures) tt (omega arith)
+pub postfixed-loop-nodes-smaller : goal.postfixed-loop-nodes-smaller
+postfixed-loop-nodes-smaller t c = further 0 0 refl (same c.loop-nodes-test.ensures) (on c.postfix_op-q.ensures) tt (omega arith)
 
-pub postfixed-loop-first-preserved : goal.postfixed-loop-first-preserved
-postfixed-loop-first-preserved t c = leading_next c.loop-first.invariant c.if-first.false c.postfix_op-q.ensures (not_same c.if-eq.ensures) c.postfix_op-q.auto.nodes
+pub postfixed-loop-nodes-preserved : goal.postfixed-loop-nodes-preserved
+postfixed-loop-nodes-preserved t c = rounds_next c.loop-nodes.invariant c.postfix_op-q.ensures (not_same c.if-eq.ensures) (c.postfix_op-q.auto.nodes ∙ c.loop-nodes.invariant.kept)
 
 pub postfixed-returns : goal.postfixed-returns
-postfixed-returns t c = leading_off c.loop-first.invariant (not_same c.loop-first-test.ensures)
+postfixed-returns t c = c.atom-p.ensures then rounds_off c.loop-nodes.invariant (not_same c.loop-nodes-test.ensures)
 
 pub struct_literal-returns-then-ne-2 : goal.struct_literal-returns-then-ne-2
-struct_literal-returns-then-ne-2 t c = (one_put c.spanned_ident-p.ensures) then (one_step c.take-p.ensures) then idle (differs c.if-ne-2.ensures) then idle (differs c.if-ne-2.ensures) then idle (differs c.if-ne-2.ensures)
+struct_literal-returns-then-ne-2 t c = c.spanned_ident-p.ensures then (one_step c.take-p.ensures) then idle (differs c.if-ne-2.ensures) then idle (differs c.if-ne-2.ensures) then idle (differs c.if-ne-2.ensures)
 
 pub struct_literal-struct_literal_fields-p-requires : goal.struct_literal-struct_literal_fields-p-requires
-struct_literal-struct_literal_fields-p-requires t c = (further 31 6 c.decreases (no_other c.if-ne.ensures) (on_put c.spanned_ident-p.ensures and_on on_step c.take-p.ensures) tt (omega arith), tt)
+struct_literal-struct_literal_fields-p-requires t c = (further 31 6 c.decreases (no_other c.if-ne.ensures) (on c.spanned_ident-p.ensures and_on on_step c.take-p.ensures) tt (omega arith), tt)
 
 pub struct_literal-returns : goal.struct_literal-returns
-struct_literal-returns t c = (one_put c.spanned_ident-p.ensures) then (one_step c.take-p.ensures) then c.struct_literal_fields-p.ensures then (one_step c.take-p-2.ensures) then (one_put c.whole.ensures)
+struct_literal-returns t c = c.spanned_ident-p.ensures then (one_step c.take-p.ensures) then c.struct_literal_fields-p.ensures then (one_step c.take-p-2.ensures) then c.whole.ensures
 
 pub struct_literal_fields-field-q-requires : goal.struct_literal_fields-field-q-requires
 struct_literal_fields-field-q-requires t c = (lower 5 31 c.decreases (no_other c.if-ne.ensures) c.loop-nodes.invariant.on (omega arith), tt)
@@ -241,10 +235,10 @@ pub struct_literal_fields-returns : goal.struct_literal_fields-returns
 struct_literal_fields-returns t c = listing_off c.loop-nodes.invariant (not_same c.loop-nodes-test.ensures)
 
 pub unary-returns-then-is : goal.unary-returns-then-is
-unary-returns-then-is t c = name_alone c.peek-k.ensures c.second.ensures c.if-not-continues.ensures (of_kind c.if-is.ensures) (one_put c.leaf.ensures)
+unary-returns-then-is t c = name_alone c.peek-k.ensures c.second.ensures c.if-not-continues.ensures (of_kind c.if-is.ensures) c.leaf.ensures
 
 pub unary-returns-then-is-2 : goal.unary-returns-then-is-2
-unary-returns-then-is-2 t c = numeral_alone c.peek-k.ensures c.second.ensures c.if-not-continues.ensures (of_kind c.if-is-2.ensures) (one_put c.literal.ensures)
+unary-returns-then-is-2 t c = numeral_alone c.peek-k.ensures c.second.ensures c.if-not-continues.ensures (of_kind c.if-is-2.ensures) c.literal.ensures
 
 pub unary-unary_at-q-requires : goal.unary-unary_at-q-requires
 unary-unary_at-q-requires t c = (lower 9 10 c.decreases (no_other c.if-ne.ensures) (at_rule (no_other c.if-ne.ensures)) (omega arith), tt)

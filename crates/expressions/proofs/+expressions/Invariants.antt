@@ -1,5 +1,5 @@
 -- What the loops of the cycle of readers `expressions` keep, and its measures. Assumes nothing.
-use Rattle.cursor.proofs.Reading.{◌-◌, size, Looping, Leading, Listing, Climbing}
+use Rattle.cursor.proofs.Reading.{◌-◌, size, Looping, Listing, Climbing}
 use Rattle.cursor.specs.Read.{begun}
 use Rattle.grammar.specs.Derive as G
 use Rattle.grammar.specs.Grammar as L
@@ -68,11 +68,11 @@ decreases-postfix_op l = size l.source.now.tokens.now l.cursor 4
 abbrev pub decreases-postfixed : goal.decreases-postfixed
 decreases-postfixed l = size l.source.now.tokens.now l.cursor 8
 
-abbrev pub invariant-postfixed-loop-first : goal.invariant-postfixed-loop-first
-invariant-postfixed-loop-first l = Leading l.source.text.now l.source.tokens.now L.atom L.postfix l.initial.p l.initial.nodes l.first l.p l.nodes
+abbrev pub invariant-postfixed-loop-nodes : goal.invariant-postfixed-loop-nodes
+invariant-postfixed-loop-nodes l = Looping l.source.text.now l.source.tokens.now L.postfix l.initial.p l.initial.nodes l.p l.nodes
 
-abbrev pub decreases-postfixed-loop-first : goal.decreases-postfixed-loop-first
-decreases-postfixed-loop-first l = size l.source.tokens.now l.p 0
+abbrev pub decreases-postfixed-loop-nodes : goal.decreases-postfixed-loop-nodes
+decreases-postfixed-loop-nodes l = size l.source.tokens.now l.p 0
 
 abbrev pub decreases-struct_literal : goal.decreases-struct_literal
 decreases-struct_literal l = size l.source.now.tokens.now l.cursor 6

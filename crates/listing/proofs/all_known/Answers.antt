@@ -1,13 +1,12 @@
-use Rattle.std.proofs.Common.{rules, arith, refl, length, ◌/◌, ◌∙◌}
-use Rattle.std.proofs.lemmas.Iterator.{YieldsList-from_range}
+use Rattle.std.proofs.Common.{rules}
 use Rattle.std.proofs.lemmas.Iterator.Search.{all_from_yields_List}
-use Rattle.tables.specs.Tables.{node_at, nodes_of}
-use Rattle.listing.specs.Answers.{known}
-use Rattle.listing.proofs.Known.{all_known_is}
+use Rattle.std.proofs.lemmas.Iterator.Consumers.{YieldsList-from_first}
+use Rattle.tables.specs.Tables.{decode_node, nodes_of}
+use Rattle.tables.specs.Left.{entries_left}
+use Rattle.listing.specs.Answers.{known, all_are_known}
 use Rattle.listing.proofs.all_known.Goals as goal
 
 pub returns : goal.returns
-unfolding nodes_of
+unfolding nodes_of all_are_known
 returns c =
-    all_from_yields_List (λ i. known (node_at c.args.nodes.now i).kind) _ _ _ c.all.ensures.ran (YieldsList-from_range 0 _ (length c.args.nodes.now / 16) refl (omega arith)) (λ x b q k. search rules)
-    ∙ all_known_is _ (λ j. node_at c.args.nodes.now j)
+    all_from_yields_List (λ n. known n.kind) c.all.new.self _ _ c.all.ensures.ran (YieldsList-from_first (λ n. n) (entries_left 16 decode_node) _ c.entries.ensures) (λ x b q k. search rules)

@@ -1,18 +1,18 @@
 use borrow.Author.Rules.{rules}
-use Rattle.numeral.specs.Numeral.{base_of}
+use Rattle.numeral.specs.Numeral.{base_in}
 use Rattle.numeral.proofs.Rests.{base_short, base_letter, base_none, base_other}
 use Rattle.numeral.proofs.base_of.Goals as goal
 
 pub returns-in-48 : goal.returns-in-48
-unfolding base_of
+unfolding base_in
 returns-in-48 c = search (rules, base_letter)
 
 pub returns-in-48-2 : goal.returns-in-48-2
-unfolding base_of
+unfolding base_in
 returns-in-48-2 c = search (rules, base_letter)
 
 pub returns-in-48-3 : goal.returns-in-48-3
-unfolding base_of
+unfolding base_in
 returns-in-48-3 c = search (rules, base_letter)
 
 pub returns-in_default : goal.returns-in_default

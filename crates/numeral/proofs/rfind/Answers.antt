@@ -1,15 +1,10 @@
 use borrow.Author.Rules.{rules}
-use Rattle.numeral.proofs.Cuts.{sought_none, sought_more, sought_stop, sought_end}
+use lib.ListN.{length, drop}
+use Rattle.patterns.specs.Bytes.{starts}
+use Rattle.std.proofs.lemmas.Iterator.Search.{find_from_yields_List}
+use Rattle.numeral.proofs.Cuts.{downwards, found_last, starts_here}
 use Rattle.numeral.proofs.rfind.Goals as goal
 
-pub loop-i-init : goal.loop-i-init
-loop-i-init c = sought_none
-
-pub returns-then-starts_with-clause-value : goal.returns-then-starts_with-clause-value
-returns-then-starts_with-clause-value c = search (rules, sought_stop)
-
-pub loop-i-preserved : goal.loop-i-preserved
-loop-i-preserved c = search (rules, sought_more)
-
 pub returns-clause-value : goal.returns-clause-value
-returns-clause-value c = search (rules, sought_end)
+returns-clause-value c =
+    found_last _ _ _ (find_from_yields_List (λ i. starts c.args.w.now (drop i c.args.s.now)) _ _ _ c.find.ensures.ran (downwards (length c.args.s.now) c.rev.ensures.source) (λ x b q k. search (rules, starts_here)))

@@ -1,5 +1,5 @@
 -- The cycle of readers `statements` meets its contract. Assumes nothing.
-use Rattle.cursor.proofs.Reading.{refl, ◌∙◌, arith, body, same, not_same, differs, no_other, of_kind, not_of_kind, idle, one_put, one_step, ◌then◌, first, only, pass, by_rule, by_part, as_deep, on, on_step, at_begin, at_rule, ◌and_on◌, was, further, lower, fell, ends_by, ends_as, ◌then_ends◌, ends_close, no_else, failed_else, by_stmt, tried_outside, let_of, inside_as, rounds_next, rounds_end, rounds_before, rounds_off}
+use Rattle.cursor.proofs.Reading.{refl, ◌∙◌, arith, body, same, not_same, differs, no_other, of_kind, not_of_kind, idle, one_step, ◌then◌, first, only, pass, by_rule, by_part, as_deep, on, on_step, at_begin, at_rule, ◌and_on◌, was, further, lower, fell, ends_by, ends_as, ◌then_ends◌, ends_close, no_else, failed_else, by_stmt, tried_outside, let_of, inside_as, rounds_next, rounds_end, rounds_before, rounds_off}
 use Rattle.grammar.specs.Derive as G
 use Rattle.statements.proofs.+statements.Goals as goal
 
@@ -7,7 +7,7 @@ pub block-stmts-p-requires : goal.block-stmts-p-requires
 block-stmts-p-requires t c = (further 21 18 c.decreases (no_other c.if-ne.ensures) (on_step c.take-p.ensures) tt (omega arith), tt)
 
 pub block-returns : goal.block-returns
-block-returns t c = (one_step c.take-p.ensures) then c.stmts-p.ensures then (one_step c.take-p-2.ensures) then (one_put c.whole.ensures)
+block-returns t c = (one_step c.take-p.ensures) then c.stmts-p.ensures then (one_step c.take-p-2.ensures) then c.whole.ensures
 
 pub branches-returns-then-ne : goal.branches-returns-then-ne
 branches-returns-then-ne t c = ends_by refl (idle (differs c.if-ne.ensures)) c.ended_with.ensures
@@ -16,10 +16,10 @@ pub branches-stmt_at-s-requires : goal.branches-stmt_at-s-requires
 branches-stmt_at-s-requires t c = (lower 19 22 c.decreases (no_other c.if-ne.ensures) (at_rule (no_other c.if-ne.ensures)) (omega arith), tt)
 
 pub branches-returns-then-s : goal.branches-returns-then-s
-branches-returns-then-s t c = (by_stmt c.deeper.ensures (no_other c.if-ne.ensures) c.stmt_at-s.ensures c.join-p.ensures) then_ends no_else (tried_outside c.deeper.ensures c.stmt_at-s.ensures c.join-p.ensures c.if-s.true) (one_put c.whole-p.ensures) c.ended_with-then-s.ensures
+branches-returns-then-s t c = (by_stmt c.deeper.ensures (no_other c.if-ne.ensures) c.stmt_at-s.ensures c.join-p.ensures) then_ends no_else (tried_outside c.deeper.ensures c.stmt_at-s.ensures c.join-p.ensures c.if-s.true) c.whole-p.ensures c.ended_with-then-s.ensures
 
 pub branches-returns-then-eq : goal.branches-returns-then-eq
-branches-returns-then-eq t c = (by_stmt c.deeper.ensures (no_other c.if-ne.ensures) c.stmt_at-s.ensures c.join-p.ensures) then_ends failed_else ((one_step c.take-q.ensures) then idle (fell (same c.if-eq.ensures))) (same c.if-eq.ensures) c.rewind-p.ensures (one_put c.whole-p-then-eq.ensures) c.ended_with-then-eq.ensures
+branches-returns-then-eq t c = (by_stmt c.deeper.ensures (no_other c.if-ne.ensures) c.stmt_at-s.ensures c.join-p.ensures) then_ends failed_else ((one_step c.take-q.ensures) then idle (fell (same c.if-eq.ensures))) (same c.if-eq.ensures) c.rewind-p.ensures c.whole-p-then-eq.ensures c.ended_with-then-eq.ensures
 
 pub branches-returns-then-ne-2 : goal.branches-returns-then-ne-2
 branches-returns-then-ne-2 t c = (by_stmt c.deeper.ensures (no_other c.if-ne.ensures) c.stmt_at-s.ensures c.join-p.ensures) then_ends first ((one_step c.take-q.ensures) then idle (differs c.if-ne-2.ensures)) (not_same c.if-eq.ensures) then_ends ends_by refl (idle (differs c.if-ne-2.ensures)) c.ended_with-then-ne-2.ensures
@@ -28,10 +28,10 @@ pub branches-stmt_at-t-requires : goal.branches-stmt_at-t-requires
 branches-stmt_at-t-requires t c = (further 19 22 c.decreases (no_other c.if-ne.ensures) (on (by_stmt c.deeper.ensures (no_other c.if-ne.ensures) c.stmt_at-s.ensures c.join-p.ensures) and_on on_step c.take-q.ensures and_on at_rule (no_other c.if-ne-2.ensures)) tt (omega arith), tt)
 
 pub branches-returns-then-eq-2 : goal.branches-returns-then-eq-2
-branches-returns-then-eq-2 t c = (by_stmt c.deeper.ensures (no_other c.if-ne.ensures) c.stmt_at-s.ensures c.join-p.ensures) then_ends failed_else ((one_step c.take-q.ensures) then by_stmt c.deeper-2.ensures (no_other c.if-ne-2.ensures) c.stmt_at-t.ensures c.join-q.ensures) (same c.if-eq-2.ensures) c.rewind-p-then-eq-2.ensures (one_put c.whole-p-then-eq-2.ensures) c.ended_with-then-eq-2.ensures
+branches-returns-then-eq-2 t c = (by_stmt c.deeper.ensures (no_other c.if-ne.ensures) c.stmt_at-s.ensures c.join-p.ensures) then_ends failed_else ((one_step c.take-q.ensures) then by_stmt c.deeper-2.ensures (no_other c.if-ne-2.ensures) c.stmt_at-t.ensures c.join-q.ensures) (same c.if-eq-2.ensures) c.rewind-p-then-eq-2.ensures c.whole-p-then-eq-2.ensures c.ended_with-then-eq-2.ensures
 
 pub branches-returns : goal.branches-returns
-branches-returns t c = (by_stmt c.deeper.ensures (no_other c.if-ne.ensures) c.stmt_at-s.ensures c.join-p.ensures) then_ends first ((one_step c.take-q.ensures) then by_stmt c.deeper-2.ensures (no_other c.if-ne-2.ensures) c.stmt_at-t.ensures c.join-q.ensures) (not_same c.if-eq-2.ensures) then_ends ends_close (one_put c.whole-q.ensures) c.ended_with-2.ensures (tried_outside c.deeper-2.ensures c.stmt_at-t.ensures c.join-q.ensures)
+branches-returns t c = (by_stmt c.deeper.ensures (no_other c.if-ne.ensures) c.stmt_at-s.ensures c.join-p.ensures) then_ends first ((one_step c.take-q.ensures) then by_stmt c.deeper-2.ensures (no_other c.if-ne-2.ensures) c.stmt_at-t.ensures c.join-q.ensures) (not_same c.if-eq-2.ensures) then_ends ends_close c.whole-q.ensures c.ended_with-2.ensures (tried_outside c.deeper-2.ensures c.stmt_at-t.ensures c.join-q.ensures)
 
 pub for_init-stmt_at-q-requires : goal.for_init-stmt_at-q-requires
 for_init-stmt_at-q-requires t c = (lower 19 23 c.decreases (no_other c.if-ne.ensures) (at_rule (no_other c.if-ne.ensures)) (omega arith), tt)
@@ -42,7 +42,7 @@ for_init-returns-then-is t c = only c.peek-k.ensures (of_kind c.if-is.ensures) t
 
 pub for_init-returns : goal.for_init-returns
 unfolding body
-for_init-returns t c = pass c.peek-k.ensures ((not_of_kind c.if-is.ensures), tt) tt (by_rule G.init_action refl (no_other c.if-ne.ensures) c.enter-p.ensures (c.expr-p.ensures then c.assigned-p.ensures then (one_step c.take-p.ensures) then (one_put c.finish-p.ensures)) c.leave.ensures)
+for_init-returns t c = pass c.peek-k.ensures ((not_of_kind c.if-is.ensures), tt) tt (by_rule G.init_action refl (no_other c.if-ne.ensures) c.enter-p.ensures c.assignment_or_expr-p.ensures c.leave.ensures)
 
 pub for_stmt-returns-then-ne : goal.for_stmt-returns-then-ne
 for_stmt-returns-then-ne t c = ends_by refl (idle (differs c.if-ne.ensures)) c.ended_with.ensures
@@ -72,7 +72,7 @@ pub last_stmt-stmt_at-s-requires : goal.last_stmt-stmt_at-s-requires
 last_stmt-stmt_at-s-requires t c = (lower 19 22 c.decreases (no_other c.if-ne.ensures) (at_rule (no_other c.if-ne.ensures)) (omega arith), tt)
 
 pub last_stmt-returns : goal.last_stmt-returns
-last_stmt-returns t c = by_stmt c.deeper.ensures (no_other c.if-ne.ensures) c.stmt_at-s.ensures c.join-p.ensures then_ends ends_close (one_put c.whole-p.ensures) c.ended_with-2.ensures (tried_outside c.deeper.ensures c.stmt_at-s.ensures c.join-p.ensures)
+last_stmt-returns t c = by_stmt c.deeper.ensures (no_other c.if-ne.ensures) c.stmt_at-s.ensures c.join-p.ensures then_ends ends_close c.whole-p.ensures c.ended_with-2.ensures (tried_outside c.deeper.ensures c.stmt_at-s.ensures c.join-p.ensures)
 
 pub loop_stmt-returns-then-ne : goal.loop_stmt-returns-then-ne
 loop_stmt-returns-then-ne t c = ends_by refl (idle (differs c.if-ne.ensures)) c.ended_with.ensures
@@ -120,10 +120,10 @@ pub stmt_at-returns-then-is-5 : goal.stmt_at-returns-then-is-5
 stmt_at-returns-then-is-5 t c = ends_as c.begin-start.ensures (λ e y. (pass c.peek-k.ensures ((not_of_kind c.if-is.ensures), tt) tt (pass c.peek-k.ensures ((not_of_kind c.if-is-2.ensures), tt) tt (pass c.peek-k.ensures ((not_of_kind c.if-is-3.ensures), tt) tt (pass c.peek-k.ensures ((not_of_kind c.if-is-4.ensures), tt) tt (only c.peek-k.ensures (of_kind c.if-is-5.ensures) tt y)))))) c.for_stmt.ensures
 
 pub stmt_at-returns-then-is-6 : goal.stmt_at-returns-then-is-6
-stmt_at-returns-then-is-6 t c = ends_by c.begin-start.ensures (pass c.peek-k.ensures ((not_of_kind c.if-is.ensures), tt) tt (pass c.peek-k.ensures ((not_of_kind c.if-is-2.ensures), tt) tt (pass c.peek-k.ensures ((not_of_kind c.if-is-3.ensures), tt) tt (pass c.peek-k.ensures ((not_of_kind c.if-is-4.ensures), tt) tt (pass c.peek-k.ensures ((not_of_kind c.if-is-5.ensures), tt) tt (only c.peek-k.ensures (of_kind c.if-is-6.ensures) tt (one_put c.jump-p.ensures))))))) c.ended_with-then-is-6.ensures
+stmt_at-returns-then-is-6 t c = ends_by c.begin-start.ensures (pass c.peek-k.ensures ((not_of_kind c.if-is.ensures), tt) tt (pass c.peek-k.ensures ((not_of_kind c.if-is-2.ensures), tt) tt (pass c.peek-k.ensures ((not_of_kind c.if-is-3.ensures), tt) tt (pass c.peek-k.ensures ((not_of_kind c.if-is-4.ensures), tt) tt (pass c.peek-k.ensures ((not_of_kind c.if-is-5.ensures), tt) tt (only c.peek-k.ensures (of_kind c.if-is-6.ensures) tt c.jump-p.ensures)))))) c.ended_with-then-is-6.ensures
 
 pub stmt_at-returns-then-is-7 : goal.stmt_at-returns-then-is-7
-stmt_at-returns-then-is-7 t c = ends_by c.begin-start.ensures (pass c.peek-k.ensures ((not_of_kind c.if-is.ensures), tt) tt (pass c.peek-k.ensures ((not_of_kind c.if-is-2.ensures), tt) tt (pass c.peek-k.ensures ((not_of_kind c.if-is-3.ensures), tt) tt (pass c.peek-k.ensures ((not_of_kind c.if-is-4.ensures), tt) tt (pass c.peek-k.ensures ((not_of_kind c.if-is-5.ensures), tt) tt (pass c.peek-k.ensures ((not_of_kind c.if-is-6.ensures), tt) tt (only c.peek-k.ensures (of_kind c.if-is-7.ensures) tt (one_put c.jump-p-then-is-7.ensures)))))))) c.ended_with-then-is-7.ensures
+stmt_at-returns-then-is-7 t c = ends_by c.begin-start.ensures (pass c.peek-k.ensures ((not_of_kind c.if-is.ensures), tt) tt (pass c.peek-k.ensures ((not_of_kind c.if-is-2.ensures), tt) tt (pass c.peek-k.ensures ((not_of_kind c.if-is-3.ensures), tt) tt (pass c.peek-k.ensures ((not_of_kind c.if-is-4.ensures), tt) tt (pass c.peek-k.ensures ((not_of_kind c.if-is-5.ensures), tt) tt (pass c.peek-k.ensures ((not_of_kind c.if-is-6.ensures), tt) tt (only c.peek-k.ensures (of_kind c.if-is-7.ensures) tt c.jump-p-then-is-7.ensures))))))) c.ended_with-then-is-7.ensures
 
 pub stmt_at-returns-then-is-8 : goal.stmt_at-returns-then-is-8
 stmt_at-returns-then-is-8 t c = ends_by c.begin-start.ensures (pass c.peek-k.ensures ((not_of_kind c.if-is.ensures), tt) tt (pass c.peek-k.ensures ((not_of_kind c.if-is-2.ensures), tt) tt (pass c.peek-k.ensures ((not_of_kind c.if-is-3.ensures), tt) tt (pass c.peek-k.ensures ((not_of_kind c.if-is-4.ensures), tt) tt (pass c.peek-k.ensures ((not_of_kind c.if-is-5.ensures), tt) tt (pass c.peek-k.ensures ((not_of_kind c.if-is-6.ensures), tt) tt (pass c.peek-k.ensures ((not_of_kind c.if-is-7.ensures), tt) tt (only c.peek-k.ensures (of_kind c.if-is-8.ensures) tt c.let_stmt-p.ensures)))))))) c.ended_with-then-is-8.ensures

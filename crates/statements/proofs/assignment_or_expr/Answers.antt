@@ -1,6 +1,6 @@
 -- `assignment_or_expr` meets its contract. Assumes nothing.
-use Rattle.cursor.proofs.Reading.{one_put, one_step, ◌then◌}
+use Rattle.cursor.proofs.Reading.{one_step, ◌then◌}
 use Rattle.statements.proofs.assignment_or_expr.Goals as goal
 
 pub returns : goal.returns
-returns c = c.expr-p.ensures then c.assigned-p.ensures then (one_step c.take-p.ensures) then (one_put c.finish.ensures)
+returns c = c.expr-p.ensures then c.assigned-p.ensures then (one_step c.take-p.ensures) then c.finish.ensures

@@ -1,6 +1,6 @@
 -- `let_stmt` meets its contract. Assumes nothing.
-use Rattle.cursor.proofs.Reading.{one_put, one_step, ◌then◌}
+use Rattle.cursor.proofs.Reading.{one_step, ◌then◌}
 use Rattle.statements.proofs.let_stmt.Goals as goal
 
 pub returns : goal.returns
-returns c = (one_step c.take-p.ensures) then c.pattern-p.ensures then c.typed-p.ensures then (one_step c.take-p-2.ensures) then c.expr-p.ensures then (one_step c.take-p-3.ensures) then (one_put c.whole.ensures)
+returns c = (one_step c.take-p.ensures) then c.pattern-p.ensures then c.value.ensures

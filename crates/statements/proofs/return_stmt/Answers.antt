@@ -1,6 +1,6 @@
 -- `return_stmt` meets its contract. Assumes nothing.
-use Rattle.cursor.proofs.Reading.{one_put, one_step, ◌then◌}
+use Rattle.cursor.proofs.Reading.{one_step, ◌then◌}
 use Rattle.statements.proofs.return_stmt.Goals as goal
 
 pub returns : goal.returns
-returns c = (one_step c.take-p.ensures) then c.returned-p.ensures then (one_step c.take-p-2.ensures) then (one_put c.whole.ensures)
+returns c = (one_step c.take-p.ensures) then c.returned-p.ensures then (one_step c.take-p-2.ensures) then c.whole.ensures

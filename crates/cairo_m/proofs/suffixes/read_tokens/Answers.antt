@@ -11,10 +11,10 @@ pub returns-in-Err-Syntax : goal.returns-in-Err-Syntax
 returns-in-Err-Syntax c = closes_syntax c.in-Err-Syntax.ensures c.in-Err-Syntax.field-0-is refl c.stop.ensures
 
 pub returns-then-unknown-gt0 : goal.returns-then-unknown-gt0
-returns-then-unknown-gt0 c = closes_suffix c.in-Ok.ensures c.requires.unknown_value c.if-unknown-gt0.true c.clear_from.ensures (search rules) c.unknown_suffixes.ensures
+returns-then-unknown-gt0 c = closes_suffix c.in-Ok.ensures c.requires.unknown_value c.if-unknown-gt0.true (c.fill.ensures.after (λ y e. e)) (search rules) c.unknown_suffixes.ensures
 
 pub returns-then-count-room : goal.returns-then-count-room
-returns-then-count-room c = closes_room c.in-Ok.ensures c.requires.unknown_value (omega arith) (omega (arith, c.well_formed)) c.room.ensures c.if-count-room.true c.clear_from-then-count-room.ensures (search rules)
+returns-then-count-room c = closes_room c.in-Ok.ensures c.requires.unknown_value (omega arith) (omega (arith, c.well_formed)) c.room.ensures c.if-count-room.true (c.fill-then-count-room.ensures.after (λ y e. e)) (search rules)
 
 pub returns : goal.returns
 returns c = closes_accepted c.in-Ok.ensures c.requires.unknown_value (omega arith) (omega (arith, c.well_formed)) c.room.ensures c.if-count-room.false c.room-2.ensures (search rules)

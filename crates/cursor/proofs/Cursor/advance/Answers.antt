@@ -1,19 +1,15 @@
-use mathlib.Core.Path.{◌≡◌}
-use mathlib.Core.List.{List}
-use Prim.Native.Nat.{ℕ, ◌/◌, ◌≤◌}
-use lib.ListN.{length}
-use Rattle.tables.specs.TokenKinds.{kind_of}
-use Rattle.tables.specs.declared.token_type.TokenType.{TokenType}
-use Rattle.cursor.specs.Read.{READING, FAILED}
-use Rattle.cursor.specs.Steps.{Halted, Advanced, not_there}
-use Rattle.cursor.specs.declared.Cursor.{Cursor}
-use Rattle.cursor.proofs.Steps.{above_none, halted, past_all}
-use Rattle.cursor.proofs.Told.{no_other}
+-- `advance` meets its contract. Assumes nothing.
+use mathlib.Core.Path.{refl, sym, ◌∙◌}
+use native.Mathlib.Omega.{arith}
+use Rattle.cursor.specs.Steps.{advanced}
+use Rattle.cursor.proofs.Steps.{above_none, there}
+use Rattle.cursor.proofs.Told.{no_other, of_kind}
 use Rattle.cursor.proofs.Cursor.advance.Goals as goal
 
--- past the last token there is none of any kind
-none_left : {w : List ℕ} (k : TokenType) {n : ℕ} {p r : Cursor} → p.status ≡ READING → n ≡ length w / 16 → n ≤ p.at → Halted FAILED p r → Advanced w (kind_of k) p r
-none_left {w} k {p = p} z e h y = not_there z (past_all w p.at e h (above_none k)) (halted z y)
+pub overflow_add-self : goal.overflow_add-self
+overflow_add-self c = omega (arith, c.well_formed, there c.args.source.now.tokens.now c.args.self.at (sym c.of.ensures ∙ of_kind c.if-not-is.ensures) (above_none c.args.kind))
 
-pub returns-then-self-room : goal.returns-then-self-room
-returns-then-self-room c = none_left c.args.kind (no_other c.if-ne.ensures) c.room.ensures c.if-self-room.true c.halt.ensures
+pub returns : goal.returns
+returns c =
+    let e = sym c.of.ensures ∙ of_kind c.if-not-is.ensures in
+    advanced (no_other c.if-ne.ensures) e c.if-self-gt-LIMIT.false (there c.args.source.now.tokens.now c.args.self.at e (above_none c.args.kind)) refl

@@ -6,12 +6,12 @@ use Rattle.cursor.proofs.Laws.{one_step}
 use Rattle.cursor.proofs.Steps.{same_act, turned_down}
 use Rattle.cursor.proofs.Cursor.index.Goals as goal
 
-pub returns-then-token-ne0 : goal.returns-then-token-ne0
-returns-then-token-ne0 c =
+pub returns-then-token : goal.returns-then-token
+returns-then-token c =
     let e = c.at-token.ensures in
-    steps (λ text T. turned_down (λ s. rw (← ap (λ (t : Token). t.suffix) e, ne_eqb _ _ c.if-token-ne0.true)) (one_step c.mark-p.ensures) c.halt.ensures)
+    steps (λ text T. turned_down (λ s. rw (← ap (λ (t : Token). t.suffix) e, ne_eqb _ _ c.if-token.true)) (one_step c.mark-p.ensures) c.halt.ensures)
 
 pub returns : goal.returns
 returns c =
     let e = c.at-token.ensures in
-    steps (λ text T. same_act (λ s. s.unknown) (λ s. rw (← ap (λ (t : Token). t.value) e, ← ap (λ (t : Token). t.suffix) e, c.if-token-ne0.false)) (one_step c.mark-p.ensures))
+    steps (λ text T. same_act (λ s. s.unknown) (λ s. rw (← ap (λ (t : Token). t.value) e, ← ap (λ (t : Token). t.suffix) e, c.if-token.false)) (one_step c.mark-p.ensures))

@@ -1,7 +1,6 @@
 use borrow.Author.Rules.{rules}
-use Rattle.cursor.specs.Read.{puts}
 use Rattle.cursor.proofs.Steps.{gathers, from_token, to_part}
 use Rattle.cursor.proofs.Cursor.prefixed.Goals as goal
 
 pub returns : goal.returns
-returns c = search (rules, puts, gathers, from_token, to_part)
+returns c = search (rules, gathers, from_token, to_part)

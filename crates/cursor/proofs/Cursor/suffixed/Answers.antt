@@ -1,7 +1,6 @@
 use borrow.Author.Rules.{rules}
-use Rattle.cursor.specs.Read.{puts}
 use Rattle.cursor.proofs.Steps.{gathers, from_part, to_token}
 use Rattle.cursor.proofs.Cursor.suffixed.Goals as goal
 
 pub returns : goal.returns
-returns c = search (rules, puts, gathers, from_part, to_token)
+returns c = search (rules, gathers, from_part, to_token)

@@ -1,5 +1,5 @@
 -- The cycle of readers `alloc` meets its contract. Assumes nothing.
-use Rattle.cursor.proofs.Reading.{refl, ◌∙◌, arith, body, same, not_same, no_other, of_kind, not_of_kind, one_put, one_step, ◌then◌, only, pass, by_part, inside_by, named, on, on_step, at_here, at_begin, at_rule, ◌and_on◌, further, lower, rounds_next, entries_none, entries_end, entries_off}
+use Rattle.cursor.proofs.Reading.{refl, ◌∙◌, arith, body, same, not_same, no_other, of_kind, not_of_kind, one_step, ◌then◌, only, pass, by_part, inside_by, named, on, on_step, at_here, at_begin, at_rule, ◌and_on◌, further, lower, rounds_next, entries_none, entries_end, entries_off}
 use Rattle.grammar.specs.Derive as G
 use Rattle.expressions.proofs.alloc_types.+alloc.Goals as goal
 
@@ -8,7 +8,7 @@ alloc_at-alloc_base-p-requires t c = (lower 3 4 c.decreases refl (at_begin c.beg
 
 pub alloc_at-returns : goal.alloc_at-returns
 unfolding body
-alloc_at-returns t c = inside_by c.begin-p.ensures (c.alloc_base-p.ensures then (one_put c.pointers-p.ensures)) c.ended.ensures
+alloc_at-returns t c = inside_by c.begin-p.ensures (c.alloc_base-p.ensures then c.many-p.ensures) c.ended.ensures
 
 pub alloc_base-returns-then-is : goal.alloc_base-returns-then-is
 alloc_base-returns-then-is t c = only c.peek-k.ensures (of_kind c.if-is.ensures) tt (named _ c.type_name-name.ensures c.leaf.ensures)
@@ -17,7 +17,7 @@ pub alloc_base-alloc_entries-p-requires : goal.alloc_base-alloc_entries-p-requir
 alloc_base-alloc_entries-p-requires t c = (further 6 3 c.decreases (no_other c.if-ne.ensures) (on_step c.take-p.ensures) tt (omega arith), tt)
 
 pub alloc_base-returns : goal.alloc_base-returns
-alloc_base-returns t c = pass c.peek-k.ensures ((not_of_kind c.if-is.ensures), tt) tt ((one_step c.take-p.ensures) then c.alloc_entries-p.ensures then (one_put c.tuple_end.ensures))
+alloc_base-returns t c = pass c.peek-k.ensures ((not_of_kind c.if-is.ensures), tt) tt ((one_step c.take-p.ensures) then c.alloc_entries-p.ensures then c.tuple_end.ensures)
 
 pub alloc_entries-alloc_type_expr-p-requires : goal.alloc_entries-alloc_type_expr-p-requires
 alloc_entries-alloc_type_expr-p-requires t c = (lower 5 6 c.decreases (no_other c.if-ne.ensures) at_here (omega arith), tt)

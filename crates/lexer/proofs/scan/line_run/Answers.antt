@@ -1,17 +1,25 @@
-use mathlib.Core.Path.{ap, ◌∙◌}
+use mathlib.Core.Path.{refl, ap, subst, ◌∙◌}
+use Prim.Native.Nat.{◌/◌}
+use lib.ListN.{length}
+use Rattle.std.specs.Simd.{first_chunks}
+use Rattle.std.proofs.lemmas.List.Folds.{length-prefix_len}
 use Rattle.std.specs.Result.{result_ok}
 use native.Mathlib.Omega.{arith}
 use borrow.Author.Rules.{rules}
+use borrow.Author.Tests.{tests}
 use Rattle.utf8.proofs.Laws.{lent}
-use Rattle.lexer.proofs.Pieces.{piece}
-use Rattle.lexer.proofs.Scans.{line_plain, line_ascii, line_char, line_newline, line_end, line_broken}
+use Rattle.std.proofs.lemmas.Iterator.Consumers.{YieldsList-at, count_from_yields_List}
+use Rattle.std.proofs.lemmas.Iterator.Search.{YieldsList-from_take_while}
+use Rattle.lexer.specs.Scans.{all_plain}
+use Rattle.lexer.proofs.Chunks.{sixteens}
+use Rattle.lexer.proofs.Scans.{Line, line_none, line_sixteens, line_ascii, line_char, line_newline, line_end, line_broken}
 use Rattle.lexer.proofs.scan.line_run.Goals as goal
 
-pub loop-sixteen-preserved : goal.loop-sixteen-preserved
-loop-sixteen-preserved c =
-    let v = c.loop-sixteen.invariant in
-    let p = piece c.in-Some.ensures.steps.1.0 c.in-Some.ensures.steps.1.1 v.3 v.4 in
-    (omega arith, tt, line_plain v.2 p (search), p.left, omega arith)
+pub loop-i-init : goal.loop-i-init
+loop-i-init c =
+    let t = c.args.t.now in
+    let n = count_from_yields_List c.take_while.result _ c.count-sixteens.ensures.ran (YieldsList-from_take_while _ all_plain (YieldsList-at c.take_while.ensures.source (sixteens t c.chunks_exact.ensures.rest c.chunks_exact.ensures.size)) c.take_while.ensures.closure c.take_while.ensures.done (λ x b q k. search (rules, tests))) ∙ length-prefix_len all_plain (first_chunks 16 (length t / 16) t) in
+    subst (Line t) (omega (arith, n)) (line_sixteens (length t / 16) t line_none refl (omega arith))
 
 pub loop-i-preserved-then-b-lt128 : goal.loop-i-preserved-then-b-lt128
 loop-i-preserved-then-b-lt128 c = search (rules, line_ascii)

@@ -7,7 +7,7 @@ use lib.ListN.{length-take, length-drop}
 use Rattle.patterns.specs.Bytes.{in_set, word}
 use Rattle.patterns.proofs.Runs.{run_within, rest_is}
 use Rattle.lexer.specs.Scans.{Begun}
-use Rattle.lexer.proofs.Scans.{Marked, found_name, found_numeral, found_nothing, found_lone, found_last, found_slash, found_single, found_pair, found_comment, found_broken, line_within}
+use Rattle.lexer.proofs.Scans.{Marked, found_name, found_numeral, found_nothing, found_lone, found_last, found_slash, kind_marks, by_bytes, found_single, found_pair, found_comment, found_broken, line_within}
 use Rattle.lexer.proofs.scan.scan.Goals.{then-single-via-then-single, then-single-via-else-single+then-t-eq1}
 use Rattle.lexer.proofs.scan.scan.Goals as goal
 
@@ -46,8 +46,11 @@ overflow_add-result c = omega (arith, simp (length-take, length-drop) at (line_w
 pub returns-then-c : goal.returns-then-c
 returns-then-c c = found_comment (marked c.requires.begun (omega arith)) (search) (search) (search rules) (search rest_is) c.line_run.ensures c.in_ok-line_run.was
 
+pub pair_of-requires : goal.pair_of-requires
+pair_of-requires c = kind_marks (marked c.requires.begun (omega arith))
+
 pub returns-in-Some : goal.returns-in-Some
-returns-in-Some c = found_pair (marked c.requires.begun (omega arith)) (search rules) (search) c.pair_of.ensures c.in-Some.is
+returns-in-Some c = let m = marked c.requires.begun (omega arith) in found_pair m (search rules) (search) (by_bytes m c.pair_of.ensures) c.in-Some.is
 
 pub returns-in-None : goal.returns-in-None
-returns-in-None c = found_single (marked c.requires.begun (omega arith)) (search) c.pair_of.ensures c.in-None.is
+returns-in-None c = let m = marked c.requires.begun (omega arith) in found_single m (search) (by_bytes m c.pair_of.ensures) c.in-None.is

@@ -1,15 +1,6 @@
 -- `items` meets its contract. Assumes nothing.
-use Rattle.cursor.proofs.Reading.{refl, ◌∙◌, arith, same, not_same, on, further, rounds_next, rounds_end, rounds_off}
+use Rattle.cursor.proofs.Reading.{}
 use Rattle.parser.proofs.items.items.Goals as goal
 
-pub returns-then-eq : goal.returns-then-eq
-returns-then-eq c = rounds_end c.loop-nodes.invariant (same c.loop-nodes-test.ensures) c.item-q.ensures (same c.if-eq.ensures) c.rewind.ensures
-
-pub loop-nodes-smaller : goal.loop-nodes-smaller
-loop-nodes-smaller c = further 0 0 refl (same c.loop-nodes-test.ensures) (on c.item-q.ensures) tt (omega arith)
-
-pub loop-nodes-preserved : goal.loop-nodes-preserved
-loop-nodes-preserved c = rounds_next c.loop-nodes.invariant c.item-q.ensures (not_same c.if-eq.ensures) (c.item-q.auto.nodes ∙ c.loop-nodes.invariant.kept)
-
 pub returns : goal.returns
-returns c = rounds_off c.loop-nodes.invariant (not_same c.loop-nodes-test.ensures)
+returns c = c.many.ensures

@@ -1,5 +1,5 @@
 -- The cycle of readers `patterns` meets its contract. Assumes nothing.
-use Rattle.cursor.proofs.Reading.{refl, ◌∙◌, arith, body, same, not_same, differs, no_other, of_kind, not_of_kind, idle, one_put, one_grown, one_step, ◌then◌, only, pass, by_part, inside_by, on, on_step, at_begin, at_rule, ◌and_on◌, was, further, lower, rounds_next, rounds_end, rounds_off}
+use Rattle.cursor.proofs.Reading.{refl, ◌∙◌, arith, body, same, not_same, differs, no_other, of_kind, not_of_kind, idle, one_grown, one_step, ◌then◌, only, pass, by_part, inside_by, on, on_step, at_begin, at_rule, ◌and_on◌, was, further, lower, rounds_next, rounds_end, rounds_off}
 use Rattle.grammar.specs.Derive as G
 use Rattle.statements.proofs.let_pattern.+patterns.Goals as goal
 
@@ -28,7 +28,7 @@ pattern_at-returns-then-is t c = inside_by c.begin-start.ensures (only c.peek-k.
 
 pub pattern_at-returns : goal.pattern_at-returns
 unfolding body
-pattern_at-returns t c = inside_by c.begin-start.ensures (pass c.peek-k.ensures ((not_of_kind c.if-is.ensures), tt) tt (one_put c.spanned_ident-p.ensures)) c.ended-2.ensures
+pattern_at-returns t c = inside_by c.begin-start.ensures (pass c.peek-k.ensures ((not_of_kind c.if-is.ensures), tt) tt c.spanned_ident-p.ensures) c.ended-2.ensures
 
 pub patterns-pattern-q-requires : goal.patterns-pattern-q-requires
 patterns-pattern-q-requires t c = (further 4 5 c.decreases (was c.loop-p.invariant.on (same c.loop-p-test.ensures)) (c.loop-p.invariant.on and_on on_step c.take-q.ensures) tt (omega arith), tt)

@@ -1,11 +1,9 @@
-use Rattle.std.proofs.Common.{ap, ◌∙◌}
-use Rattle.json_text.specs.Json.{row}
 use Rattle.json_text.proofs.Writing.{both, same_text}
 use Rattle.json_text.proofs.Fields.{row_is}
 use Rattle.json_text.proofs.rows.NodeRow.write.Goals as goal
 
 pub returns : goal.returns
-returns c = same_text (row_is _ c.name_of.ensures ∙ ap row c.at-node.ensures)
+returns c = same_text (row_is c.args.self c.name_of.ensures)
     (both c.put.ensures
     (both c.put-2.ensures
     (both c.put-3.ensures

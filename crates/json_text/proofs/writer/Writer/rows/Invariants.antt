@@ -1,7 +1,10 @@
-use Rattle.tables.specs.Tables.{entry_at}
+use Rattle.tables.proofs.Numbered.{each}
 use Rattle.json_text.specs.Writes.{Writes}
 use Rattle.json_text.proofs.Arrays.{begun}
 use Rattle.json_text.proofs.writer.Writer.rows.Given as goal
 
 abbrev pub invariant-loop-i : goal.invariant-loop-i
-invariant-loop-i g l = Writes (begun l.i (λ j. g.R.Row.text (g.R.Entry.decode (entry_at g.R.Entry.SIZE l.table j)))) l.initial.self l.self
+invariant-loop-i g l =
+    (goal.iterator-loop-i g).can_next l.i-iterator
+    × (goal.iterator-loop-i g).is_finite l.i-iterator
+    × Writes (begun (each g.R.Row.text l.yielded)) l.initial.self l.self

@@ -1,6 +1,0 @@
-use mathlib.Core.Path.{sym}
-use Rattle.lexer.proofs.Texts.{word_is}
-use Rattle.lexer.proofs.class.Tables.in_word.Goals as goal
-
-pub returns : goal.returns
-returns c = sym (word_is c.args.b _ c.ranges.b.fits c.class.ensures)

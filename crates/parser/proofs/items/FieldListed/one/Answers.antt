@@ -1,6 +1,0 @@
--- One of a list of fields meets its contract. Assumes nothing.
-use Rattle.cursor.proofs.Reading.{one_put, one_step, ◌then◌}
-use Rattle.parser.proofs.items.FieldListed.one.Goals as goal
-
-pub returns : goal.returns
-returns c = (one_put c.spanned_ident-p.ensures) then (one_step c.take-p.ensures) then c.type_expr.ensures
