@@ -51,7 +51,7 @@ extern "C" {
 // ---- outcomes
 
 // What a call returns. Where more than one holds, a reading answers the first of 1, 2, 3, 4, 5, 7, 8, 6; a listing the first of
-// 11, 10; the numeral entry the first of 1, 9, 3.
+// 11, 10; the numeral entry the first of 1, 9, 3. The hit test has 12 alone.
 enum cairo_m_outcome {
     CAIRO_M_ACCEPTED = 0,
     CAIRO_M_LONG = 1,         // over 65,535 bytes
@@ -64,7 +64,8 @@ enum cairo_m_outcome {
     CAIRO_M_SUFFIX = 8,       // literals with an unknown suffix: the diagnostics have them, with reason 4
     CAIRO_M_SPELLING = 9,     // numeral entry alone: not the spelling of a numeral
     CAIRO_M_OUTPUT_ROOM = 10, // listing alone: the JSON is longer than the bytes lent for it
-    CAIRO_M_KIND = 11         // listing alone: a node's kind is not one of 1 to 42
+    CAIRO_M_KIND = 11,        // listing alone: a node's kind is not one of 1 to 42
+    CAIRO_M_OFFSET = 12       // hit test alone: the offset is at or past the text's length
 };
 
 // The reason of a diagnostic. Its span is the whole character or the whole numeral; with reason 5 it is the token, or empty at the
@@ -328,6 +329,13 @@ uint32_t cairo_m_list(const void *nodes, size_t nodes_size, void *out, size_t ou
 // or 10; `size` and `out` are as above.
 uint32_t cairo_m_list_refused(uint32_t outcome, const void *diagnostics, size_t diagnostics_size, void *out, size_t out_size,
                               size_t *size);
+
+// What is under the pointer: the node with the shortest span that contains the offset, its start included and its end not; among
+// equal lengths the first in the table. Every whole entry counts as it is, whatever table it is: one whose start is at or past its
+// end contains nothing, so that the zeros behind a tree do no harm.
+// The outcome is 0 or 12. `found` is 1 and `place` the node's place in the table, from 0, if a node contains the offset; both are 0
+// if none does, and when refused.
+uint32_t cairo_m_hit_test(size_t offset, size_t length, const void *nodes, size_t nodes_size, uint8_t *found, size_t *place);
 
 // Room that a listing of so many entries never goes past. The longest rows are
 // ["LiteralFelt",65535,65535,65535,"18446744073709551615",255] and [65535,65535,255], with a comma 61 and 18 bytes; the rest is []

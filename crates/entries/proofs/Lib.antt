@@ -3,3 +3,4 @@ pub mod NumeralAnswers
 pub mod LexAnswers
 pub mod Desk
 pub mod ListAnswers
+pub mod HitAnswers

@@ -3,3 +3,4 @@ pub mod Tokens
 pub mod Numbers
 pub mod Spelling
 pub mod Lists
+pub mod Hits

@@ -9,6 +9,7 @@ ghost use Rattle.entries.specs.Spelling.{spelling_of};
 ghost use Rattle.entries.specs.Tokens.{LexIs};
 ghost use Rattle.entries.specs.Numerals.{NumeralIs};
 ghost use Rattle.entries.specs.Lists.{ListIs};
+ghost use Rattle.entries.specs.Hits.{HitTestIs};
 
 use entries::Diagnostic;
 
@@ -93,4 +94,18 @@ pub extern "C" fn cairo_m_list_refused(
     ensures { ListIs (refused (length out.old) outcome (diagnostics_of diagnostics.now)) (length out.old) out.new size.new result }
 {
     entries::cairo_m_list_refused(outcome, diagnostics, out, size)
+}
+
+// The node under a place of the text.
+#[unsafe(no_mangle)]
+pub extern "C" fn cairo_m_hit_test(
+    offset: usize,
+    length: usize,
+    nodes: &[u8],
+    found: &mut u8,
+    place: &mut usize,
+) -> u32
+    ensures { HitTestIs offset length nodes.now result found.new place.new }
+{
+    entries::cairo_m_hit_test(offset, length, nodes, found, place)
 }
