@@ -1,9 +1,10 @@
 #!/usr/bin/env python3
-"""The cases of tests/reading, and the answers that are owed by the reading from bytes to nodes and by the listing.
+"""The cases of tests/reading, and the answers that are owed by the reading from bytes to nodes, the listing and the hit test.
 
 The answers are worked out from 01-scope.md, lexer.rs and parser.rs, never from what the crates print: tokens by the model of
 expected.py, trees by the model of reading_grammar.py. Both models have to agree with every tree, and every refusal and place
 where it stops, that was written down by hand in parser_expected.py, and with the outcomes that 01 names, or nothing is written.
+The model of the hit test has to agree with what is written down by hand here.
 
   reading_expected.py              write tests/reading/cases and tests/reading/owed
   reading_expected.py --check      say whether the files on disk are what would be written; exit 1 if not
@@ -20,6 +21,9 @@ A line of the case file is one of these. Sizes are in bytes, but for LIST, which
   s KIND START END TEXT                             a spelling
   j OUT NODES KIND,START,END,CHILDREN,VALUE,BASE .. a listing of these entries; `*N` after an entry repeats it
   k OUT DIAGNOSTICS OUTCOME START,END,REASON ..     a listing of a refusal
+  h OFFSET LENGTH NODES KIND,START,END,CHILDREN,VALUE,BASE ..   a hit test in these entries, `*N` as above; the last may be cut off
+  H TOKENS NODES STEP TEXT                          a reading, then hit tests in the node table it leaves, at the offsets 0, STEP and so
+                                                    on up to the text's length + 1
   b TEXT                                            a text that later lines take parts of
   # TITLE
 
@@ -33,10 +37,13 @@ What is owed for it, each on one line (CRC is the CRC-32 of all bytes of a table
   s LENGTH
   j OUTCOME SIZE CRC JSON
   k OUTCOME SIZE CRC JSON
+  h OUTCOME FOUND PLACE
+  H OUTCOME ANSWERS                             of the reading; then a place, `-` for nobody or `!` for 12, `*N` if N are the same
 
-JSON longer than 200 bytes is `SIZE:CRC` instead, and none is `-`.
+JSON, or ANSWERS, longer than 200 bytes is `SIZE:CRC` instead, and none is `-`.
 """
 
+import itertools
 import json
 import re
 import struct
@@ -56,7 +63,7 @@ NUMBER = {kind: number for number, kind in enumerate(KINDS, 1)}
 SPELLED = ("Name", "Named", "Identifier")
 
 ACCEPTED, LONG, ENCODING, LEXICAL, TOKEN_ROOM, NEST, NODE_ROOM, SYNTAX, SUFFIX = range(9)
-OUTPUT_ROOM, KIND = 10, 11
+OUTPUT_ROOM, KIND, OFFSET = 10, 11, 12
 UNKNOWN_SUFFIX, STOP = 4, 5
 
 # ---- the reading
@@ -186,6 +193,28 @@ def refused_entry(outcome, errors, room):
     return (ACCEPTED, said) if len(said) <= room else (OUTPUT_ROOM, "")
 
 
+# ---- the hit test
+
+
+def hit_test(offset, length, nodes):
+    """(outcome, found, place): Wish 4's rule. The second and third number of a node are its start and end, whatever the rest is."""
+    if offset >= length:
+        return OFFSET, 0, 0
+    hit = sorted((end - start, place) for place, (_, start, end, *_) in enumerate(nodes) if start <= offset < end)
+    return (ACCEPTED, 1, hit[0][1]) if hit else (ACCEPTED, 0, 0)
+
+
+HIT_WORDS = {(ACCEPTED, 0, 0): "-", (OFFSET, 0, 0): "!"}
+
+
+def hit_words(length, nodes, step):
+    """The answers at the offsets 0, step and so on up to length + 1, with how many in a row are the same."""
+    hits = [hit_test(offset, length, nodes) for offset in range(0, length + 2, step)]
+    words = [HIT_WORDS.get(hit, str(hit[2])) for hit in hits]
+    runs = [(word, len(list(same))) for word, same in itertools.groupby(words)]
+    return ",".join(word + (f"*{times}" if times > 1 else "") for word, times in runs)
+
+
 # ---- bytes
 
 
@@ -247,7 +276,7 @@ def spelled(text):
 class Cases(expected.Cases):
     def __init__(self):
         super().__init__()
-        self.outcomes, self.bases, self.number, self.answers = {}, [], 0, {}
+        self.outcomes, self.bases, self.number, self.answers, self.hits = {}, [], 0, {}, {}
 
     def read(self, text, tokens=None, nodes=None, diagnostics=None, length=None, said=None):
         """A reading; where a size is not given the table has room for all, and up to 17 bytes or two records more."""
@@ -302,6 +331,28 @@ class Cases(expected.Cases):
         answer, said = refused_entry(outcome, errors, out)
         words = ["k", out, 8 * len(errors) + rest, outcome] + [",".join(map(str, error)) for error in errors]
         self.line(" ".join(map(str, words)), f"k {answer} {len(said)} {crc(said.encode().ljust(out, bytes(1)))} {shown(said)}")
+
+    def hit(self, offset, length, runs, rest=0):
+        """A hit test in runs (entry, times); with `rest`, the last entry is cut off after so many bytes."""
+        nodes = [entry for entry, times in runs for _ in range(times)]
+        whole = nodes[:-1] if rest else nodes
+        words = ["h", offset, length, 16 * len(whole) + rest] + [",".join(map(str, entry)) + (f"*{times}" if times > 1 else "") for entry, times in runs]
+        answer = hit_test(offset, length, whole)
+        self.hits[HIT_WORDS.get(answer, "node")] = self.hits.get(HIT_WORDS.get(answer, "node"), 0) + 1
+        self.line(" ".join(map(str, words)), " ".join(map(str, ("h", *answer))))
+
+    def hits_of(self, text, nodes=None, step=1):
+        """A reading, then hit tests; where it is not given, the node table has room for all, and up to 49 bytes more."""
+        text = text if isinstance(text, Text) else Text(text)
+        self.number += 1
+        tokens, needed, _ = text.needs()
+        nodes = needed + (0, 15, 16, 49)[self.number % 4] if nodes is None else nodes
+        answer = text.read(tokens, nodes, 0)
+        # the zeros behind the tree are entries too
+        entries = [*answer.nodes] + [("", 0, 0, 0, 0, 0)] * (nodes // 16 - len(answer.nodes))
+        self.answers[len(self.given) + 1] = answer
+        self.line(f"H {tokens} {nodes} {step} {spelled(text)}", f"H {answer.outcome} {shown(hit_words(len(text.bytes), entries, step))}")
+        return answer
 
 
 # ---- what was written down by hand
@@ -955,6 +1006,226 @@ def spelling_cases(cases):
     cases.spelling(b"\xff\xc3\x80", 1, 0, 3)
 
 
+# ---- the hit test
+
+# Spans in their order, then offset, length and the answer, found by hand.
+STATED_HITS = [
+    ([], 0, 1, (0, 0, 0)),
+    ([], 0, 0, (12, 0, 0)),
+    # the start is included, the end is not
+    ([(2, 4)], 1, 9, (0, 0, 0)),
+    ([(2, 4)], 2, 9, (0, 1, 0)),
+    ([(2, 4)], 3, 9, (0, 1, 0)),
+    ([(2, 4)], 4, 9, (0, 0, 0)),
+    # at or past the length, whatever a node contains
+    ([(2, 4)], 3, 4, (0, 1, 0)),
+    ([(2, 4)], 3, 3, (12, 0, 0)),
+    ([(2, 4)], 3, 2, (12, 0, 0)),
+    # the shortest, and the earliest of those
+    ([(0, 9), (2, 5), (3, 9)], 3, 9, (0, 1, 1)),
+    ([(0, 9), (3, 6), (2, 5), (3, 6)], 4, 9, (0, 1, 1)),
+    ([(0, 9), (2, 5), (3, 6), (3, 5)], 4, 9, (0, 1, 3)),
+    ([(3, 5), (2, 5), (2, 5)], 2, 9, (0, 1, 1)),
+    # nothing is in an empty span, or in one that ends before it starts
+    ([(3, 3), (5, 2), (0, 0), (1, 8)], 3, 9, (0, 1, 3)),
+    ([(3, 3), (5, 2), (0, 0)], 3, 9, (0, 0, 0)),
+    ([(0, 0)], 0, 1, (0, 0, 0)),
+    # no span goes past 65,535
+    ([(0, 65535)], 65534, 2**64 - 1, (0, 1, 0)),
+    ([(0, 65535)], 65535, 2**64 - 1, (0, 0, 0)),
+    ([(0, 65535)], 65536, 2**64 - 1, (0, 0, 0)),
+    ([(0, 65535)], 2**64 - 2, 2**64 - 1, (0, 0, 0)),
+    ([(0, 65535)], 2**64 - 1, 2**64 - 1, (12, 0, 0)),
+]
+
+# Texts, and under each of their bytes the place of the node, found by hand: 0 to 9, then a; `.` is nobody. The closing bracket of a
+# call with arguments is not part of the call: at 13 in the first text stands the Const, 4, though the Call 10..13, 3, has its bracket
+# at 11. A call without any ends two bytes after its callee: with a blank between them, its bracket is outside as well.
+HITS_BY_HAND = [
+    ("const A = f(a);",
+     "444444044413244"),
+    ("const A = f( );",
+     "333333033312233"),
+    ("const A = f();",
+     "33333303331223"),
+    # an index ends with its last operand too
+    ("const A = a[0] + b[1];",
+     "8888880888132777746588"),
+    # Param 3 and TypeTuple 4 have 0..0
+    ("fn f(a: T) {}",
+     "5550515525555"),
+    # and so has PatternTuple, 4
+    ("fn f() { let (a, b) = c; }",
+     "77707777766666266366665677"),
+    # the step, Identifier 5 and ExprStmt 6 at 20..21
+    ("fn f() { for (x; y; z) w; }",
+     "aaa0aaaaa9999923949959978aa"),
+    # a pointer begins with its operand, without the bracket before that
+    ("const A: (T)* = (a);",
+     "55555505551225554345"),
+    # between items, and in a comment with a character of two bytes
+    ("use a::b; use c;",
+     "222202212.444434"),
+    ("// \u00e9\nuse m;\n",
+     "......111101."),
+    (" ",
+     "."),
+    ("",
+     ""),
+]
+
+
+def spans(*pairs):
+    """Entries with these spans; what else is in a node is of no account."""
+    return [((at % 42 + 1, start, end, 0, 0, 0), 1) for at, (start, end) in enumerate(pairs)]
+
+
+def stated_hits(cases):
+    for pairs, offset, length, owed in STATED_HITS:
+        said = hit_test(offset, length, [entry for entry, _ in spans(*pairs)])
+        if said != owed:
+            raise SystemExit(f"reading_expected.py: the hit test of {offset} of {length} in {pairs} is {said}, by hand {owed}")
+        cases.hit(offset, length, spans(*pairs))
+    marks = {".": (ACCEPTED, 0, 0)} | {mark: (ACCEPTED, 1, place) for place, mark in enumerate("0123456789a")}
+    for text, owed in HITS_BY_HAND:
+        nodes, length = Text(text).nodes()[1], len(text.encode())
+        said, by_hand = [hit_test(offset, length, nodes) for offset in range(length)], [marks[mark] for mark in owed]
+        if said != by_hand:
+            raise SystemExit(f"reading_expected.py: the hit tests of {text!r} are {said}, by hand {by_hand}")
+        for size in (None, 0, 16, 16 * 64):
+            cases.hits_of(text, size)
+
+
+# Spans that nothing is in.
+NOWHERE = [(0, 0), (5, 5), (65535, 65535), (9, 5), (6, 5), (65535, 0), (1, 0)]
+
+
+def edge_hits(cases):
+    """Each side of a span and of a length."""
+    for start, end in ((0, 1), (0, 5), (4, 5), (5, 9), (255, 257), (0, 256), (32767, 32769), (0, 65535), (65533, 65535), (65534, 65535)):
+        for offset in sorted({max(0, at + more) for at in (start, end) for more in (-1, 0, 1)}):
+            for length in (65535, offset + 1, offset):
+                cases.hit(offset, length, spans((start, end)))
+    for start, end in NOWHERE:
+        for offset in sorted({max(0, at + more) for at in (start, end) for more in (-1, 0, 1)}):
+            cases.hit(offset, 70000, spans((start, end)))
+            cases.hit(offset, 70000, spans((start, end), (0, 65535)))
+            cases.hit(offset, 70000, spans((0, 65535), (start, end)))
+    cases.hit(5, 70000, spans(*NOWHERE))
+    cases.hit(5, 70000, spans(*NOWHERE, (0, 65535), *NOWHERE))
+    lengths = [0, 1, 4, 5, 6, 65535, 65536, 65541, 2**32, 2**32 + 3, 2**63, 2**64 - 1]
+    for length in lengths:
+        for offset in sorted({*lengths, max(0, length - 1), min(2**64 - 1, length + 1)}):
+            cases.hit(offset, length, spans((0, 65535), (3, 5)))
+            cases.hit(offset, length, [])
+    # past every span, though the lower bits of the offset are not
+    for offset in (65535, 65536, 65540, 70000, 131071, 131076, 2**32 + 4, 2**48 + 4, 2**63 + 4, 2**64 - 2):
+        for length in (offset + 1, 2**64 - 1):
+            cases.hit(offset, length, spans((0, 65535), (4, 9), (65534, 65535)))
+            cases.hit(offset, length, spans((0, 0)))
+
+
+def order_hits(cases):
+    """The shortest at each place of a table, and the earliest where some are as short."""
+    for pairs in sorted(set(itertools.permutations([(0, 9), (2, 7), (3, 6), (4, 5), (4, 5)]))):
+        cases.hit(4, 9, spans(*pairs))
+    # as wide, from other starts; 5..9 does not contain the offset
+    for pairs in itertools.permutations([(2, 6), (3, 7), (4, 8), (5, 9), (1, 9)]):
+        cases.hit(4, 9, spans(*pairs))
+    for pairs in ([(1, 9), (2, 6), (2, 6), (4, 6)], [(2, 6), (2, 6), (2, 6)], [(4, 5), (0, 9), (4, 5)], [(0, 0), (3, 6), (4, 4), (2, 5), (5, 4)]):
+        for offset in range(10):
+            cases.hit(offset, 9, spans(*pairs))
+    # every table of up to two spans within 0..3
+    every = [(start, end) for start in range(4) for end in range(4)]
+    for pairs in [()] + [(one,) for one in every] + list(itertools.product(every, every)):
+        for offset in range(3):
+            cases.hit(offset, 3, spans(*pairs))
+
+
+def rest_hits(cases):
+    """An entry that is cut off is none, even if its span is there."""
+    for rest in range(1, 16):
+        cases.hit(4, 9, spans((4, 5)), rest)
+        cases.hit(4, 9, spans((0, 9), (4, 5)), rest)
+        cases.hit(9, 9, spans((9, 10)), rest)
+    cases.hit(4, 9, spans((4, 5), (3, 6), (4, 5)), 15)
+
+
+def field_hits(cases):
+    """What else is in a node."""
+    for kind in range(256):
+        cases.hit(4, 9, [((kind, 2, 8, 0, 0, 0), 1), ((255 - kind, 1, 9, 0, 0, 0), 1)])
+    for children in (0, 1, 2, 255, 256, 65535):
+        for value in (0, 1, 2**53, expected.LARGEST_VALUE):
+            for base in (0, 10, 16, 255):
+                cases.hit(4, 9, [((39, 0, 9, children, value, base), 1), ((1, 4, 6, 0, 0, 0), 1), ((7, 4, 5, children, value, base), 1)])
+    everything = (255, 0, 65535, 65535, expected.LARGEST_VALUE, 255)
+    for offset in (0, 65534, 65535):
+        cases.hit(offset, 65536, [(everything, 3)])
+
+
+def large_hits(cases):
+    """Tables of many entries; a place may take more than 16 bits."""
+    wide, near, short, empty = ((7, start, end, 0, 0, 0) for start, end in ((0, 65535), (2, 9), (4, 5), (4, 4)))
+    for count in (4096, 65535, 65536, 100000, 131000):
+        for runs in ([(wide, count)], [(wide, count - 1), (short, 1)], [(short, 1), (wide, count - 1)],
+                     [(wide, count // 2), (near, 3), (short, 2), (near, count - count // 2 - 5)], [(empty, count - 1), (near, 1)], [(empty, count)]):
+            cases.hit(4, 65535, runs)
+        cases.hit(4, 65535, [(near, count), (short, 1)], 15)
+        cases.hit(4, 4, [(short, count)])
+    nested = [((24, 1000 - at, 1000 + at, 1, 0, 0), 1) for at in range(1, 1001)]
+    for offset, runs in ((400, nested), (1999, nested[::-1]), (999, nested[500:] + nested[:500])):
+        cases.hit(offset, 2001, runs)
+
+
+def hits_by_chance(cases, chance, count):
+    for _ in range(count):
+        bound = chance.one_of([4, 10, 100, 65536])
+        entries = [((chance.below(44), chance.below(bound), chance.below(bound), chance.below(3), chance.below(2), 0), 1) for _ in range(chance.below(16))]
+        offset = chance.below(bound + 1)
+        if entries and chance.below(2):
+            offset = max(0, chance.one_of(entries)[0][1 + chance.below(2)] - chance.below(2))
+        cases.hit(offset, chance.one_of([offset, offset + 1, bound, 65536]), entries, chance.below(2) * chance.below(16) if entries else 0)
+
+
+# A text of each kind of answer, those of the refused ones with a table of zeros.
+HIT_TEXTS = [
+    "fn f() { for (let i = 0; i < n; i = i + 1) { g(i, a[i]).b = -t.0 as T; } }", "fn f(a: felt, b: T*,) -> (T, [U; 3]) { return; { } }",
+    "const A = P { x: f(g(1), ), y: [[1; 2], new (T,)*[3]], };", "struct S { a: (T), b: U* }\n\n\n// \u20ac\n\tuse a::{b, c,};  ",
+    "fn f() { let ((a, b), c): T = ((1, 2), 3); if (a) b; else if c { d = !-e; } else loop break; while a == b continue; }",
+    "fn f() { x; f /* */; }", "const A = f(\n  a,\n  b // \u00e9)\n);", "fn f() { -f ()[0] (); f ()().a() ; }", "@", "const A = 1", body("12u8;"), "x" * 70000,
+    PARENS[0], PARENS[1], b"\xff", Text((" ", 1000)), Text("const A = ", ("-", 1000), "1;"), Text("const A = 1", ("+1", 500), ";"),
+    Text("const A = ", ("f(", 60), "a", (")", 60), ";"), Text("const A: T", ("*", 500), " = 1;"),
+]
+
+
+def text_hits(cases):
+    for text in HIT_TEXTS:
+        cases.hits_of(text, step=1 if not isinstance(text, str) or len(text) < 1000 else 997)
+    for text in CONSTRUCTS:
+        cases.hits_of(text)
+        cases.hits_of(text, Text(text).needs()[1] - 16)
+    for text in examples().values():
+        cases.hits_of(Text(text), step=1 if len(text) < 4096 else 499)
+    chance = expected.Chance(4)
+    for _ in range(60):
+        cases.hits_of(Maker(chance, False).text())
+    for run in (RUNS[0], RUNS[6], RUNS[26]):
+        cases.hits_of(run_text(run), step=4099)
+
+
+def hit_cases(cases):
+    stated_hits(cases)
+    edge_hits(cases)
+    order_hits(cases)
+    rest_hits(cases)
+    field_hits(cases)
+    large_hits(cases)
+    hits_by_chance(cases, expected.Chance(12), 300)
+    if min(cases.hits.get(word, 0) for word in ("node", "-", "!")) < 100:
+        raise SystemExit(f"reading_expected.py: of the hit tests, {cases.hits} only")
+
+
 # ---- all
 
 
@@ -1005,6 +1276,10 @@ def all_cases():
     listing_cases(cases)
     cases.section("listings of refusals")
     refusal_cases(cases)
+    cases.section("hit tests")
+    hit_cases(cases)
+    cases.section("hit tests at the offsets of texts")
+    text_hits(cases)
     for outcome in range(9):
         if cases.outcomes.get(outcome, 0) < 3:
             raise SystemExit(f"reading_expected.py: outcome {outcome} is owed fewer than three times")
@@ -1023,7 +1298,7 @@ def files():
 
 
 def more(count, folder):
-    """Further cases: texts made by chance, nested by chance, and damaged examples."""
+    """Further cases: texts made by chance, nested by chance, damaged examples, and hit tests."""
     cases = Cases()
     made_texts(cases, 20000 + count, count // 3, 4000)
     nested_texts(cases, 30000 + count, count // 3)
@@ -1031,6 +1306,9 @@ def more(count, folder):
     bases = [cases.base(text) for text in examples().values() if len(text) < 4096 and Text(text).read(2**20, 2**20, 0).outcome == ACCEPTED]
     for base in bases:
         damages(cases, chance, base, count // 3 // len(bases))
+    hits_by_chance(cases, chance, count // 10)
+    for _ in range(count // 100):
+        cases.hits_of(Maker(chance, False).text())
     given, owed = cases.files()
     Path(folder).mkdir(parents=True, exist_ok=True)
     Path(folder, "cases").write_text(given)

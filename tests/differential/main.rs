@@ -67,6 +67,14 @@ extern "C" {
         out_size: usize,
         size: *mut usize,
     ) -> u32;
+    fn cairo_m_hit_test(
+        offset: usize,
+        length: usize,
+        nodes: *const u8,
+        nodes_size: usize,
+        found: *mut u8,
+        place: *mut usize,
+    ) -> u32;
 
     fn mmap(address: *mut c_void, length: usize, protection: i32, flags: i32, file: i32, offset: i64) -> *mut c_void;
     fn mprotect(address: *mut c_void, length: usize, protection: i32) -> i32;
@@ -173,6 +181,9 @@ struct Seen {
     listings: [u64; 12],
     numerals: [u64; 10],
     spellings: u64,
+    /// Hit tests: nodes, nobody, refusals; and how many of the nodes are not the only ones of their length that contain the offset.
+    hits: [u64; 3],
+    ties: u64,
     /// Values in the listings of trees: those that are numbers, those that are strings.
     values: [u64; 2],
     /// By base: literals and counts of the trees compared, and numerals that the entry accepted.
@@ -275,6 +286,7 @@ impl Desk {
         self.compare_lexing(text, tokens, random)?;
         self.compare_listing(&whole, random)?;
         self.compare_spellings(text, &whole, random)?;
+        self.compare_hits(text, &whole, random)?;
         self.seen.texts += 1;
         self.seen.bytes += text.len() as u64;
         Ok(())
@@ -477,6 +489,77 @@ impl Desk {
         Ok(())
     }
 
+    /// Hit tests in the tree, at times damaged, and at times in a table that no reading gives.
+    fn compare_hits(&mut self, text: &[u8], whole: &Answer, random: &mut Random) -> Result<(), String> {
+        if whole.outcome == reader::ACCEPTED || random.one_in(32) {
+            // there may be zeros behind the tree
+            let mut nodes = reader::table(&whole.nodes, whole.node_count * Node::SIZE + random.below(3 * Node::SIZE));
+            if random.one_in(8) && !nodes.is_empty() {
+                for _ in 0..1 + random.below(4) {
+                    let at = random.below(nodes.len());
+                    nodes[at] = random.next() as u8;
+                }
+            }
+            let length = text.len();
+            if length <= 24 {
+                self.compare_hits_at(&(0..length + 2).collect::<Vec<_>>(), length, &nodes, random)?;
+            } else {
+                let offsets: Vec<_> = (0..5).map(|_| random.below(length)).chain([length - 1, length]).collect();
+                self.compare_hits_at(&offsets, length, &nodes, random)?;
+            }
+        }
+        if random.one_in(16) {
+            // short spans, empty ones and some that end before they start, around the same place
+            let near = random.below(65_536 - 8);
+            let mut nodes = vec![0; random.below(12 * Node::SIZE)];
+            nodes.iter_mut().for_each(|byte| *byte = random.next() as u8);
+            for node in nodes.chunks_exact_mut(Node::SIZE) {
+                node[2..4].copy_from_slice(&((near + random.below(8)) as u16).to_le_bytes());
+                node[4..6].copy_from_slice(&((near + random.below(8)) as u16).to_le_bytes());
+            }
+            let offsets: Vec<_> = (near..near + 8).collect();
+            let length = random.pick(&[near, near + 4, near + 9, 1 << 32, usize::MAX]);
+            self.compare_hits_at(&offsets, length, &nodes, random)?;
+            // no span goes so far, though the lower bits are those of the place
+            let far = near + (1 << random.pick(&[16, 17, 32, 63]));
+            self.compare_hits_at(&[far], far + random.below(2), &nodes, random)?;
+        }
+        if random.one_in(5000) {
+            // a place past 16 bits
+            let count = 65_530 + random.below(1000);
+            let wide = [[1, 0], [0, 0], [255, 255], [0, 0]].concat();
+            let mut nodes: Vec<u8> = wide.iter().copied().chain([0; 8]).cycle().take(count * Node::SIZE).collect();
+            let shorter = count - 1 - random.below(9);
+            nodes[shorter * Node::SIZE + 2] = 1;
+            self.compare_hits_at(&[0, 1, 65_534, 65_535], 65_536, &nodes, random)?;
+        }
+        Ok(())
+    }
+
+    fn compare_hits_at(&mut self, offsets: &[usize], length: usize, nodes: &[u8], random: &mut Random) -> Result<(), String> {
+        let spans = reader::spans_by_length(nodes);
+        let lent = self.nodes.lend_copy(nodes, random);
+        let garbage = random.next();
+        for &offset in offsets {
+            let (mut found, mut place) = (garbage as u8, garbage as usize);
+            let outcome = unsafe { cairo_m_hit_test(offset, length, lent, nodes.len(), &mut found, &mut place) };
+            let answer = (outcome, found, place);
+            let expected = reader::hit_test(offset, length, &spans);
+            if answer != expected {
+                let what = format!("hit test of {offset} in {length}, {} bytes of nodes: outcome, found, place", nodes.len());
+                return differ(&what, expected, answer);
+            }
+            self.seen.hits[if outcome == reader::OFFSET { 2 } else { 1 - found as usize }] += 1;
+            let mut equal = spans.iter().skip_while(|(_, at)| found == 1 && *at != place);
+            if let Some((hit, _)) = equal.next().filter(|_| found == 1) {
+                let width = hit.end - hit.start;
+                let mut equal = equal.take_while(|(span, _)| span.end - span.start == width);
+                self.seen.ties += equal.any(|(span, _)| span.contains(&(offset as u64))) as u64;
+            }
+        }
+        self.nodes.check("hit test: nodes", nodes, Node::SIZE)
+    }
+
     fn compare_numeral(&mut self, spelling: &[u8]) -> Result<(), String> {
         let place = self.text.put(spelling);
         let (mut value, mut suffix, mut base, mut reason) = (77, 77, 77, 77);
@@ -584,16 +667,19 @@ impl Desk {
         println!("values in listings    numbers: {}, strings: {}", seen.values[0], seen.values[1]);
         println!("numerals by outcome   {}", counts(&seen.numerals, &[0, 1, 3, 9]));
         println!("spellings             {}", seen.spellings);
+        let [nodes, nobody, refused] = seen.hits;
+        println!("hit tests             nodes: {nodes}, with ties: {}; nobody: {nobody}, refused: {refused}", seen.ties);
         println!("literals by base      {}", counts(&seen.literals, &BASES));
         println!("counts by base        {}", counts(&seen.counts, &BASES));
         println!("numerals by base      {}", counts(&seen.entry_bases, &BASES));
     }
 
-    /// Whether every outcome of a reading, both places to stop, both spellings of a value and every base were seen.
+    /// Whether every outcome of a reading, both places to stop, both spellings of a value, every answer of a hit test, a tie among them,
+    /// and every base were seen.
     fn covered(&self) -> bool {
         let seen = &self.seen;
         let every_base = |counts: &[u64]| BASES.iter().all(|&base| counts[base] > 0);
-        seen.readings.iter().chain(&seen.stops).chain(&seen.values).all(|&count| count > 0)
+        seen.readings.iter().chain(&seen.stops).chain(&seen.values).chain(&seen.hits).chain([&seen.ties]).all(|&count| count > 0)
             && every_base(&seen.literals)
             && every_base(&seen.counts)
             && every_base(&seen.entry_bases)
@@ -664,7 +750,7 @@ fn run(seconds: u64, seed: u64) -> bool {
     desk.report(start);
     let covered = desk.covered();
     if !covered {
-        println!("not every outcome of a reading, not both places to stop or spellings of a value, or not every base, was seen");
+        println!("not every outcome of a reading, answer of a hit test, place to stop, spelling of a value or base was seen");
     }
     covered
 }

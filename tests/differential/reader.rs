@@ -5,6 +5,7 @@
 //! not tried: they would take nothing.
 
 use std::fmt::Write;
+use std::ops::Range;
 
 pub const LONGEST_TEXT: usize = 65_535;
 pub const DEEPEST_NEST: u32 = 64;
@@ -21,6 +22,7 @@ pub const SUFFIX: u32 = 8;
 pub const SPELLING: u32 = 9;
 pub const OUTPUT_ROOM: u32 = 10;
 pub const KIND: u32 = 11;
+pub const OFFSET: u32 = 12;
 
 pub const REASON_CHARACTER: u8 = 1;
 pub const REASON_OVERFLOW: u8 = 2;
@@ -1232,6 +1234,28 @@ pub fn spelling(text: &[u8], kind: u8, start: u16, end: u16) -> &[u8] {
     text.get(start as usize..end as usize).unwrap_or(&[])
 }
 
+// ---- the hit test
+
+/// The spans of a node table that are not empty, each with its node's place: the shortest first, those of a length as they stand.
+pub fn spans_by_length(nodes: &[u8]) -> Vec<(Range<u64>, usize)> {
+    let spans = nodes.chunks_exact(Node::SIZE).map(|node| number(&node[2..4])..number(&node[4..6]));
+    let mut spans: Vec<_> = spans.zip(0..).filter(|(span, _)| !span.is_empty()).collect();
+    // a stable sort
+    spans.sort_by_key(|(span, _)| span.end - span.start);
+    spans
+}
+
+/// The hit test of Wish 4: outcomes 0 and 12, whether a node contains the offset, and its place.
+pub fn hit_test(offset: usize, length: usize, spans_by_length: &[(Range<u64>, usize)]) -> (u32, u8, usize) {
+    if offset >= length {
+        return (OFFSET, 0, 0);
+    }
+    match spans_by_length.iter().find(|(span, _)| span.contains(&(offset as u64))) {
+        Some(&(_, place)) => (ACCEPTED, 1, place),
+        None => (ACCEPTED, 0, 0),
+    }
+}
+
 #[cfg(test)]
 mod tests {
     use super::*;
@@ -1509,6 +1533,53 @@ mod tests {
         assert_eq!(outcome(&format!("const A: T{} = 1;", "*".repeat(60_000))), 0);
         // an else that fails is not read again by every outer if
         assert_eq!(body(&"if(a)if(a)if(a)b;else ".repeat(20)), 7);
+    }
+
+    /// Under each byte of a text the place of its node, `.` for nobody.
+    #[test]
+    fn hits() {
+        for (text, owed) in [
+            // the bracket of a call is outside if it has arguments
+            ("const A=f(a);", "4444440413244"),
+            ("const A=f();", "333333031223"),
+            ("const A=f()(a)+b[1];", "99999909122438857699"),
+            // Param, PatternTuple and an absent return type have 0..0
+            ("fn f(a:T){let(b,c)=d;}", "aaa0a1a2aa99995969989a"),
+            // a step is as long as its expression
+            ("fn f(){for(x;y;z)w;}", "aaa0aaa999923495978a"),
+            (" use m;// ", ".111101..."),
+        ] {
+            let answer = read(text.as_bytes(), ENOUGH, ENOUGH);
+            let spans = spans_by_length(&table(&answer.nodes, 16 * answer.node_count + 40));
+            let said: String = (0..text.len())
+                .map(|offset| match hit_test(offset, text.len(), &spans) {
+                    (0, 1, place) => char::from_digit(place as u32, 36).unwrap(),
+                    (0, 0, 0) => '.',
+                    other => panic!("{text}: {other:?}"),
+                })
+                .collect();
+            assert_eq!(said, owed, "{text}");
+            assert_eq!(hit_test(text.len(), text.len(), &spans), (12, 0, 0));
+        }
+        let hit = |offset, length, spans: &[(u16, u16)]| {
+            let mut nodes = Vec::new();
+            for (start, end) in spans {
+                nodes.extend([0, 7]);
+                nodes.extend(start.to_le_bytes());
+                nodes.extend(end.to_le_bytes());
+                nodes.extend([9; 10]);
+            }
+            // a cut off entry behind them
+            nodes.extend([1, 0, 4, 0, 5, 0, 0, 0, 0, 0, 0, 0, 0, 0, 0]);
+            hit_test(offset, length, &spans_by_length(&nodes))
+        };
+        let spans = [(0, 9), (5, 4), (4, 4), (2, 6), (3, 7), (3, 7)];
+        assert_eq!([0, 1, 2, 3, 5, 6, 8].map(|offset| hit(offset, 9, &spans).2), [0, 0, 3, 3, 3, 4, 0]);
+        assert_eq!(hit(9, 10, &spans), (0, 0, 0));
+        assert_eq!(hit(4, 4, &spans), (12, 0, 0));
+        assert_eq!(hit(0, 1, &[(0, 0), (65535, 0)]), (0, 0, 0));
+        assert_eq!(hit(65534, usize::MAX, &[(0, 65535)]), (0, 1, 0));
+        assert_eq!(hit(65536, usize::MAX, &[(0, 65535)]), (0, 0, 0));
     }
 
     #[test]

@@ -10,6 +10,8 @@
 // * The numeral entry agrees with each numeral of the text, and with the text as a spelling.
 // * Where the reader of tests/differential is linked in, a reading with room for every text has its answer, byte for byte.
 // * A listing parses back to the numbers that were listed, needs just the room that it takes, and is zero after it.
+// * A hit test, in the tree and in the text's bytes as a node table, is refused just at or past the length. The node that it names
+//   contains the offset, no other one that does is shorter, and none as short is earlier; it says nobody only if there is none.
 // * No byte outside a buffer is touched, what is only read is not changed, and what a buffer held before does not matter.
 #include "fuzz.h"
 
@@ -54,6 +56,7 @@ FEATURES uint8_t tokens_seen[OUTCOMES * BITS];
 FEATURES uint8_t diagnostics_seen[OUTCOMES * BITS];
 FEATURES uint8_t neighbours_seen[NEIGHBOURS * NEIGHBOURS];
 FEATURES uint8_t stops_seen[NEIGHBOURS * NEIGHBOURS];
+FEATURES uint8_t hits_seen[BITS * BITS];
 
 static size_t least(size_t a, size_t b) { return a < b ? a : b; }
 
@@ -554,6 +557,67 @@ static void list(struct listed l, uint8_t chosen, enum way way, uint8_t garbage)
          "a listing with less room is not refused");
 }
 
+// ---- hit tests
+
+// In the node table that is lent, which holds these bytes.
+static void check_hit(size_t offset, size_t length, const uint8_t *nodes, size_t size, enum way way, uint8_t garbage) {
+    lend(&byte_rooms[0], 1, way, garbage);
+    lend(&count_rooms[0], sizeof(size_t), way, garbage);
+    uint32_t outcome =
+        cairo_m_hit_test(offset, length, node_room.bytes, size, byte_rooms[0].bytes, (size_t *)count_rooms[0].bytes);
+    uint8_t found = *byte_rooms[0].bytes;
+    size_t place = count_at(0), count = size / sizeof(cairo_m_node);
+    give_back(&byte_rooms[0]);
+    give_back(&count_rooms[0]);
+    hold(outcome == (offset >= length ? CAIRO_M_OFFSET : 0), "a hit test and the length disagree");
+    hold(found == 0 || (found == 1 && outcome == 0), "a hit test has a wrong number for nobody");
+    hold(found == 1 || place == 0, "a hit test that names no node has a place");
+    if (outcome != 0)
+        return;
+    cairo_m_node hit = {0}, n;
+    if (found == 1) {
+        hold(place < count, "a hit test names no whole entry");
+        memcpy(&hit, nodes + place * sizeof hit, sizeof hit);
+        hold(hit.start <= offset && offset < hit.end, "a hit test names a node that does not contain the offset");
+    }
+    int width = hit.end - hit.start;
+    for (size_t i = 0; i < count; i++) {
+        memcpy(&n, nodes + i * sizeof n, sizeof n);
+        if (n.start > offset || n.end <= offset)
+            continue;
+        hold(found == 1, "a hit test says nobody, and a node contains the offset");
+        hold(n.end - n.start >= width, "a hit test names a node, and another is shorter");
+        hold(n.end - n.start > width || i >= place, "a hit test names a node, and an earlier one is as short");
+    }
+    hits_seen[found == 1 ? bits(place) * BITS + bits((size_t)width) : 0] = 1;
+}
+
+// At the borders of the text and of some entries, and where the head says.
+static void check_hits(const uint8_t *head, const uint8_t *nodes, size_t size, size_t length, enum way way, uint8_t garbage) {
+    static const size_t large[8] = {0, 65535, 65536, 65537, 70000, (size_t)1 << 32, (size_t)1 << 63, SIZE_MAX};
+    size_t count = size / sizeof(cairo_m_node), chosen = head[4] + 256 * (size_t)head[7];
+    size_t offsets[] = {0, length - 1, length, length + 1, chosen, chosen % (length + 1)};
+    lend_bytes(&node_room, nodes, size, way);
+    for (size_t i = 0; i < sizeof offsets / sizeof offsets[0]; i++)
+        check_hit(offsets[i], length, nodes, size, way, garbage);
+    for (size_t i = 0; i < 3; i++)
+        check_hit(large[(head[6] + i) & 7], large[head[7] & 7], nodes, size, way, garbage);
+    // first the one that is cut off, if there is one, and the last
+    for (size_t i = 0; i < 5; i++) {
+        cairo_m_node n = {0};
+        size_t at = i < 2 ? count - least(count, i) : chosen * i % (count + 1);
+        memcpy(&n, nodes + at * sizeof n, least(sizeof n, size - at * sizeof n));
+        size_t within = n.start + chosen % (size_t)(n.end > n.start ? n.end - n.start : 1);
+        size_t borders[] = {n.start - (size_t)1, n.start, within, n.end - (size_t)1, n.end};
+        for (size_t j = 0; j < sizeof borders / sizeof borders[0]; j++)
+            check_hit(borders[j], SIZE_MAX, nodes, size, way, garbage);
+        check_hit(within, within + (chosen & 1), nodes, size, way, garbage);
+        // past every span, though the lower bits are not
+        check_hit(within + ((size_t)65536 << 16 * (i % 3)), SIZE_MAX, nodes, size, way, garbage);
+    }
+    give_back_bytes(&node_room, nodes);
+}
+
 // ---- an input
 
 static void check_spelling(const uint8_t *text, size_t length, uint8_t kind, uint16_t start, uint16_t end, enum way way) {
@@ -624,6 +688,14 @@ static void try_at(const uint8_t *head, const uint8_t *text, size_t length, stru
     for (size_t i = 0; i < length; i += sizeof(cairo_m_node))
         kinds[i] = kinds[i] % NODE_KINDS + 1;
     list((struct listed){kinds, length, true, 0}, head[7], way, garbage);
+
+    if (whole.read.outcome == 0) {
+        // with some zeros behind the tree
+        size_t size = whole.read.node_count * sizeof(cairo_m_node), more = least(head[6] % 40, sizeof whole.nodes - size);
+        memset((uint8_t *)whole.nodes + size, 0, more);
+        check_hits(head, (const uint8_t *)whole.nodes, size + more, length, way, garbage);
+    }
+    check_hits(head, text, length, length, way, garbage);
 }
 
 static struct sizes choose_sizes(const uint8_t *head, size_t length) {

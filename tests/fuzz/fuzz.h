@@ -14,9 +14,10 @@ void try_input(const uint8_t *input, size_t size);
 void try_input_on_heap(const uint8_t *input, size_t size);
 
 // What an input was seen to do, a byte for each: its outcome with the number of tokens and of diagnostics; where it is accepted, the
-// tokens that stand side by side; and where reading stopped, the token there and the one before it.
+// tokens that stand side by side; where reading stopped, the token there and the one before it; and of a node that was hit, its place
+// and its length.
 enum { OUTCOMES = 12, BITS = 17, NEIGHBOURS = 51 };
 extern uint8_t tokens_seen[OUTCOMES * BITS], diagnostics_seen[OUTCOMES * BITS], neighbours_seen[NEIGHBOURS * NEIGHBOURS];
-extern uint8_t stops_seen[NEIGHBOURS * NEIGHBOURS];
+extern uint8_t stops_seen[NEIGHBOURS * NEIGHBOURS], hits_seen[BITS * BITS];
 
 #endif

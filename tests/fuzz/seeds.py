@@ -1,10 +1,12 @@
 #!/usr/bin/env python3
-"""Writes the inputs that the fuzzer begins with: the examples and the texts of tests/reading/cases, each with a head.
+"""Writes the inputs that the fuzzer begins with: the examples, and the texts and small node tables of tests/reading/cases, each with
+a head.
 
     seeds.py FOLDER
 """
 import pathlib
 import re
+import struct
 import sys
 
 ROOT = pathlib.Path(__file__).resolve().parents[2]
@@ -50,6 +52,14 @@ def texts():
             bases.append(spelled(line[2:], bases))
         elif found := re.match(rb"r \d+ \d+ \d+ \d+ ", line):
             yield spelled(line[found.end() :], bases)
+        elif found := re.match(rb"h \d+ \d+ (\d{2,3}) ", line):
+            yield table(line[found.end() :].split())[: int(found.group(1))]
+
+
+def table(entries):
+    """A node table, which is a text too; an entry that repeats stands in it once."""
+    nodes = [map(int, entry.split(b"*")[0].split(b",")) for entry in entries]
+    return b"".join(struct.pack("<BBHHHQ", kind, base, start, end, children, value) for kind, start, end, children, value, base in nodes)
 
 
 def main():

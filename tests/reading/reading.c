@@ -1,4 +1,4 @@
-// Replays the cases of reading_expected.py through the C entries for reading, spelling and listing.
+// Replays the cases of reading_expected.py through the C entries for reading, spelling, listing and the hit test.
 //
 //     reading CASES OWED   compare; a case with another answer is printed, and the exit status is 1
 //     reading CASES        print the answers, line by line as OWED has them
@@ -180,7 +180,7 @@ static void keep_base(const uint8_t *text, size_t n) {
 
 // ---- the entries
 
-static struct lent text_room, token_room, node_room, diagnostic_room, list_room, count_rooms[3], out_room;
+static struct lent text_room, token_room, node_room, diagnostic_room, list_room, count_rooms[3], out_room, byte_room;
 
 // A listing at its exact room; with a byte less it has to be refused. The entry is called with the room and answers the size.
 typedef uint32_t listing(const void *of, size_t room, size_t *size);
@@ -269,7 +269,8 @@ static void print_entries(FILE *out, size_t tokens, size_t nodes, size_t diagnos
     }
 }
 
-static void read_case(FILE *out, const uint8_t *text, size_t n, const size_t *sizes, int way, bool entries) {
+// A reading; the tables stay lent, and the three counts are handed out.
+static uint32_t read_at(const uint8_t *text, size_t n, const size_t *sizes, int way, size_t *counts) {
     lend_bytes(&text_room, text, n, way);
     lend(&token_room, sizes[0], way);
     lend(&node_room, sizes[1], way);
@@ -285,11 +286,16 @@ static void read_case(FILE *out, const uint8_t *text, size_t n, const size_t *si
     see_guard(&node_room);
     see_guard(&diagnostic_room);
     see_guard(&list_room);
-    size_t counts[3];
     for (int i = 0; i < 3; i++) {
         see_guard(&count_rooms[i]);
         memcpy(&counts[i], count_rooms[i].bytes, sizeof(size_t));
     }
+    return outcome;
+}
+
+static void read_case(FILE *out, const uint8_t *text, size_t n, const size_t *sizes, int way, bool entries) {
+    size_t counts[3];
+    uint32_t outcome = read_at(text, n, sizes, way, counts);
     // the padding of a record is left open
     for (size_t i = 0; i < sizes[3]; i++)
         list_room.bytes[6 * i + 5] = 0;
@@ -346,9 +352,85 @@ static void refusal_case(FILE *out, const uint8_t *entries, size_t out_size, siz
     fputc('\n', out);
 }
 
+// ---- the hit test
+
+struct hit {
+    uint32_t outcome;
+    uint8_t found;
+    size_t place;
+};
+
+// In the node table as it is lent.
+static struct hit hit_at(size_t offset, size_t length, int way) {
+    struct hit hit;
+    lend(&byte_room, sizeof hit.found, way);
+    lend(&count_rooms[0], sizeof hit.place, way);
+    hit.outcome = cairo_m_hit_test(offset, length, node_room.bytes, node_room.size, byte_room.bytes, (size_t *)count_rooms[0].bytes);
+    see_guard(&node_room);
+    see_guard(&byte_room);
+    see_guard(&count_rooms[0]);
+    hit.found = *byte_room.bytes;
+    memcpy(&hit.place, count_rooms[0].bytes, sizeof hit.place);
+    return hit;
+}
+
+static void hit_case(FILE *out, const uint8_t *entries, size_t offset, size_t length, size_t size, int way) {
+    lend_bytes(&node_room, entries, size, way);
+    struct hit hit = hit_at(offset, length, way);
+    see_unchanged(&node_room, entries);
+    fprintf(out, "h %u %u %zu\n", hit.outcome, hit.found, hit.place);
+}
+
+// A place, `-` for nobody or `!` for a refusal; anything else has its three numbers.
+static void print_hit(FILE *out, struct hit hit, size_t times) {
+    if (hit.outcome == CAIRO_M_ACCEPTED && hit.found == 1)
+        fprintf(out, "%zu", hit.place);
+    else if ((hit.outcome == CAIRO_M_ACCEPTED || hit.outcome == CAIRO_M_OFFSET) && hit.found == 0 && hit.place == 0)
+        fputc(hit.outcome == CAIRO_M_ACCEPTED ? '-' : '!', out);
+    else
+        fprintf(out, "%u/%u/%zu", hit.outcome, hit.found, hit.place);
+    if (times > 1)
+        fprintf(out, "*%zu", times);
+}
+
+static bool same_hit(struct hit a, struct hit b) { return a.outcome == b.outcome && a.found == b.found && a.place == b.place; }
+
+// A reading, then hit tests at the offsets 0, step and so on up to the length + 1, in the table that it left.
+static void hits_case(FILE *out, const uint8_t *text, size_t n, const size_t *of, int way, bool entries) {
+    size_t counts[3], sizes[4] = {of[0], of[1], 0, 0}, step = of[2], times = 1, said_size;
+    char *said;
+    if (step == 0)
+        stop("no step");
+    uint32_t outcome = read_at(text, n, sizes, way, counts), node_crc = crc(node_room.bytes, sizes[1]);
+    FILE *list = open_memstream(&said, &said_size);
+    if (list == NULL)
+        stop("no memory");
+    struct hit last = hit_at(0, n, way);
+    for (size_t offset = step; offset < n + 2; offset += step) {
+        struct hit next = hit_at(offset, n, way);
+        if (!same_hit(last, next)) {
+            print_hit(list, last, times);
+            fputc(',', list);
+            times = 0;
+        }
+        last = next;
+        times++;
+    }
+    print_hit(list, last, times);
+    fclose(list);
+    if (crc(node_room.bytes, sizes[1]) != node_crc)
+        stop("a hit test has changed the nodes");
+    fprintf(out, "H %u", outcome);
+    print_json(out, (const uint8_t *)said, said_size);
+    fputc('\n', out);
+    free(said);
+    if (entries && outcome == CAIRO_M_ACCEPTED)
+        print_entries(out, least(counts[0], sizes[0] / 16), least(counts[1], sizes[1] / 16), 0);
+}
+
 // ---- the lines of the case file
 
-// Entries of a listing, each `*N` times, then other bytes up to the size.
+// Entries of a node table, each `*N` times, the last cut off where the size ends, then other bytes up to the size.
 static void read_nodes(const char *at, uint8_t *table, size_t size) {
     size_t n = 0;
     memset(table, POISON, size);
@@ -364,9 +446,9 @@ static void read_nodes(const char *at, uint8_t *table, size_t size) {
             at += more;
         cairo_m_node node = {(uint8_t)kind, (uint8_t)base, (uint16_t)start, (uint16_t)end, (uint16_t)children, value};
         for (; times > 0; times--, n += sizeof node) {
-            if (n + sizeof node > size)
+            if (n >= size)
                 stop("too many entries");
-            memcpy(table + n, &node, sizeof node);
+            memcpy(table + n, &node, least(sizeof node, size - n));
         }
     }
 }
@@ -409,6 +491,12 @@ static void answer(FILE *out, const char *line, int way, bool entries) {
     } else if (sscanf(line, "k %zu %zu %u%n", &of[0], &of[1], &outcome, &start) == 3 && of[1] <= TABLE_ROOM) {
         read_diagnostics(line + start, table, of[1]);
         refusal_case(out, table, of[0], of[1], outcome, way);
+    } else if (sscanf(line, "h %zu %zu %zu%n", &of[0], &of[1], &of[2], &start) == 3 && of[2] <= TABLE_ROOM) {
+        read_nodes(line + start, table, of[2]);
+        hit_case(out, table, of[0], of[1], of[2], way);
+    } else if (sscanf(line, "H %zu %zu %zu%n", &of[0], &of[1], &of[2], &start) == 3) {
+        n = read_text(line + start + 1, text);
+        hits_case(out, text, n, of, way, entries);
     } else {
         stop("no case");
     }
@@ -531,6 +619,7 @@ int main(int words, char **word) {
     out_room = make(OUT_ROOM);
     for (int i = 0; i < 3; i++)
         count_rooms[i] = make(sizeof(size_t));
+    byte_room = make(1);
 
     size_t page = (size_t)sysconf(_SC_PAGESIZE);
     uint8_t *pages = mmap(NULL, STACK + page, PROT_NONE, MAP_PRIVATE | MAP_ANONYMOUS, -1, 0);
