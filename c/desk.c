@@ -6,28 +6,18 @@
 // with LF and a column is a character; where reading stopped, that line too, with carets under the token; and for an accepted text
 // the tree, each parent before its children, two spaces for a level.
 // Exit status: 0 all are accepted, 1 some text is refused, 2 a file could not be read.
-#include <errno.h>
-#include <stdbool.h>
 #include <stdio.h>
 #include <stdlib.h>
-#include <string.h>
 
-#include "cairo_m.h"
+#include "reading.h"
 
-enum { ACCEPTED = 0, REFUSED = 1, FAILED = 2 };
+const char program[] = "desk";
 
 // Levels past this one are told by number, since a tree may be as deep as its text is long.
 enum { LAST_INDENT = 40 };
 
-// At the start; a text that needs more entries is read again with as many as the counts say.
-enum { FIRST_ROOM = 1024 };
-
 // As much of a numeral or another token as is shown, and of a line before and from the place where reading stopped, in characters.
 enum { SHOWN = 40, SHOWN_BESIDE = 60 };
-
-static const char *const outcome_words[] = {
-    "accepted", "long", "encoding", "lexical", "token room", "nest", "node room", "syntax", "suffix",
-};
 
 static const char *const node_kinds[] = {
     "?",       "Name",         "Named",       "Pointer",     "TypeTuple", "FixedArray",
@@ -52,78 +42,6 @@ static const char *const binary_words[] = {
 };
 
 #define WORD(words, at) ((at) < sizeof(words) / sizeof *(words) ? (words)[at] : "?")
-
-// A text and all that was read of it. The tables grow and are used for every file.
-struct reading {
-    unsigned char text[CAIRO_M_LONGEST_TEXT + 1];
-    size_t length;
-    cairo_m_token *tokens;
-    cairo_m_node *nodes;
-    cairo_m_diagnostic *diagnostics;
-    size_t token_room, node_room, diagnostic_room;
-    size_t token_count, node_count, diagnostic_count;
-    uint32_t outcome;
-};
-
-// A table of `room` entries in place of an old one, whose content is not kept. Not enough memory ends the program.
-static void *table(void *old, size_t room, size_t entry) {
-    free(old);
-    void *made = calloc(room, entry);
-    if (made == NULL) {
-        fputs("desk: not enough memory\n", stderr);
-        exit(FAILED);
-    }
-    return made;
-}
-
-// ---- reading
-
-// One byte more than the longest text is read, so that a longer one is seen to be too long.
-static bool load(struct reading *r, const char *name) {
-    bool standard = strcmp(name, "-") == 0;
-    if (*name == '\0') {
-        fputs("desk: an empty file name\n", stderr);
-        return false;
-    }
-    FILE *in = standard ? stdin : fopen(name, "rb");
-    if (in == NULL) {
-        fprintf(stderr, "desk: %s: %s\n", name, strerror(errno));
-        return false;
-    }
-    r->length = fread(r->text, 1, sizeof r->text, in);
-    bool read = !ferror(in);
-    if (!read)
-        fprintf(stderr, "desk: %s: %s\n", name, strerror(errno));
-    if (!standard)
-        fclose(in);
-    return read;
-}
-
-static void call(struct reading *r) {
-    cairo_m_record none;
-    r->outcome = cairo_m_read(r->text, r->length, r->tokens, r->token_room * sizeof *r->tokens, r->nodes,
-                              r->node_room * sizeof *r->nodes, r->diagnostics, r->diagnostic_room * sizeof *r->diagnostics,
-                              &r->token_count, &r->node_count, &r->diagnostic_count, &none, 0);
-}
-
-// Reads until the tables have room for everything. Each round makes one of them as large as its count says.
-static void read_all(struct reading *r) {
-    for (;;) {
-        call(r);
-        if (r->outcome == CAIRO_M_TOKEN_ROOM && r->token_count > r->token_room) {
-            r->token_room = r->token_count;
-            r->tokens = table(r->tokens, r->token_room, sizeof *r->tokens);
-        } else if (r->outcome == CAIRO_M_NODE_ROOM && r->node_count > r->node_room) {
-            r->node_room = r->node_count;
-            r->nodes = table(r->nodes, r->node_room, sizeof *r->nodes);
-        } else if (r->diagnostic_count > r->diagnostic_room) {
-            r->diagnostic_room = r->diagnostic_count;
-            r->diagnostics = table(r->diagnostics, r->diagnostic_room, sizeof *r->diagnostics);
-        } else {
-            return;
-        }
-    }
-}
 
 // ---- errors
 
@@ -310,44 +228,21 @@ static void print_tree(const struct reading *r) {
 // ---- the verdict
 
 static void print_reading(const struct reading *r, const char *name) {
-    printf("%s: %u %s: ", name, r->outcome, WORD(outcome_words, r->outcome));
-    switch (r->outcome) {
-    case CAIRO_M_ACCEPTED:
-        printf("tokens %zu, nodes %zu\n", r->token_count, r->node_count);
+    printf("%s: ", name);
+    print_verdict(r);
+    putchar('\n');
+    print_errors(r, name);
+    if (r->outcome == CAIRO_M_ACCEPTED)
         print_tree(r);
-        break;
-    case CAIRO_M_LONG:
-        puts("over 65,535 bytes");
-        break;
-    case CAIRO_M_ENCODING:
-        puts("not UTF-8");
-        break;
-    case CAIRO_M_LEXICAL:
-    case CAIRO_M_SUFFIX:
-        printf("errors %zu\n", r->diagnostic_count);
-        print_errors(r, name);
-        break;
-    case CAIRO_M_NEST:
-        puts("an attempt takes a token at nest above 64");
-        break;
-    case CAIRO_M_SYNTAX:
-        puts("no derivation of all tokens");
-        print_errors(r, name);
-        break;
-    default:
-        puts("not an outcome of a reading with room for all");
-    }
 }
 
 int main(int words, char **word) {
-    static struct reading r = {.token_room = FIRST_ROOM, .node_room = FIRST_ROOM, .diagnostic_room = FIRST_ROOM};
+    static struct reading r;
     if (words < 2) {
         fputs("usage: desk FILE..    (- is standard input)\n", stderr);
         return FAILED;
     }
-    r.tokens = table(NULL, r.token_room, sizeof *r.tokens);
-    r.nodes = table(NULL, r.node_room, sizeof *r.nodes);
-    r.diagnostics = table(NULL, r.diagnostic_room, sizeof *r.diagnostics);
+    make_tables(&r);
     int status = ACCEPTED;
     for (int i = 1; i < words; i++) {
         if (!load(&r, word[i])) {
@@ -359,12 +254,6 @@ int main(int words, char **word) {
         if (r.outcome != CAIRO_M_ACCEPTED && status == ACCEPTED)
             status = REFUSED;
     }
-    free(r.tokens);
-    free(r.nodes);
-    free(r.diagnostics);
-    if (fflush(stdout) != 0 || ferror(stdout)) {
-        fprintf(stderr, "desk: standard output: %s\n", strerror(errno));
-        return FAILED;
-    }
-    return status;
+    free_tables(&r);
+    return written() ? status : FAILED;
 }
