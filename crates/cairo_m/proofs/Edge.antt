@@ -8,7 +8,7 @@ use native.Mathlib.Decide.{ℕ_discrete}
 use lib.Dec.{T, leb, ltb, eqb, leb→le}
 use lib.ListN.{length, take, drop}
 use borrow.Author.Tests.{eqb-true, eqb-false, ltb-true}
-use Rattle.std.specs.Prelude.{Option, None, Some, Ok, unwrap_or}
+use Rattle.std.specs.Prelude.{Option, None, Some, Result, Ok, unwrap_or}
 use Rattle.patterns.specs.Bytes.{bytes, same, starts, in_set, white, letter, digit, word, run}
 use Rattle.patterns.proofs.Tests.{and_l, and_r}
 use Rattle.patterns.proofs.Words.{same_is, same_self}
@@ -17,6 +17,8 @@ use Rattle.tables.specs.TokenKinds.{IDENT}
 use Rattle.utf8.specs.Utf8.{Utf8, Rest}
 use Rattle.utf8.specs.Utf8 as utf8
 use Rattle.numeral.specs.Numeral.{base_in, digit_of, digit_in, last_below, last_of, cut_at, cut_by, cut_of, suffix_kind, reading, read_to, rest_of, numeral_of}
+use Rattle.numeral.specs.declared.NumberLiteral.{NumberLiteral}
+use Rattle.numeral.specs.declared.NumberParseError.{NumberParseError}
 use Rattle.lexer.specs.Kinds.{texts, fixed_of}
 use Rattle.lexer.specs.Classes.{kind_from, next_from, next_of, pair_of, class_of, KindIs, kind, no_kind}
 use Rattle.lexer.specs.Tokens.{Best}
@@ -41,8 +43,8 @@ data Is : List ℕ → Sight → Type 0 where
 skip_is : {s : List ℕ} {n : ℕ} → Scanned s (Ok (Found.Skip n)) → Is s (seen 0 n)
 skip_is (Scanned.skip b r) = is b r
 
-number_is : {s : List ℕ} {n : ℕ} → Scanned s (Ok (Found.Number n)) → Is s (seen 1 n)
-number_is (Scanned.number b r) = is b r
+number_is : {s : List ℕ} {a : Result NumberLiteral NumberParseError} {n : ℕ} → Scanned s (Ok (Found.Number a n)) → Is s (seen 1 n)
+number_is (Scanned.number b r e) = is b r
 
 token_is : {s : List ℕ} {k n : ℕ} → Scanned s (Ok (Found.Token k n)) → Is s (seen k n)
 token_is (Scanned.token h b r) = is b r
@@ -119,7 +121,7 @@ sight_is (b ∷ s) =
     (λ d.
     let g : Begun (b ∷ s) c = record { some = omega arith; small = ltb-true b 256 h; class_is = refl; dark = eqb-false c 1 d } in
     either_way (Is _) (eqb c 0xFE) (λ e. token_is (found_name g (eqb-true c 0xFE e) refl (keyword_is 18 (take n (b ∷ s)) (omega arith) (λ j h k. absurd (omega arith)))))
-    (λ e. either_way (Is _) (eqb c 0xFF) (λ e. number_is (found_numeral g (eqb-true c 0xFF e) refl))
+    (λ e. either_way (Is _) (eqb c 0xFF) (λ e. number_is (found_numeral g (eqb-true c 0xFF e) refl refl))
     (λ e. either_way (Is _) (ltb c 0x80)
     (λ e. mark_is c b s (record { begun = g; low = ltb-true c 0x80 e }))
     (λ e. is_unseen)))))

@@ -16,7 +16,7 @@ use Rattle.tables.specs.Codes.{suffix_code}
 use Rattle.tables.specs.declared.entry_codes.Suffix.{Suffix}
 use Rattle.tables.proofs.Laws.{TokenFits, zero_token}
 use Rattle.numeral.specs.Numeral.{most, base_code, base_in, base_of, digit_of, digit_in, cut_of, suffix_kind, reading, read_to, rest_of, numeral_of}
-use Rattle.numeral.proofs.Rests.{base_small, base_told}
+use Rattle.numeral.proofs.Bases.{base_small, base_told}
 use Rattle.numeral.specs.declared.Base.{Base}
 use Rattle.numeral.specs.declared.NumberLiteral.{NumberLiteral}
 use Rattle.numeral.specs.declared.NumberParseError.{NumberParseError}

@@ -16,7 +16,7 @@ use Rattle.tables.proofs.Suffix.{one_more}
 use Rattle.patterns.specs.Bytes.{in_set, white, run}
 use Rattle.patterns.proofs.Runs.{run_within}
 use Rattle.utf8.specs.Utf8.{Rest}
-use Rattle.utf8.proofs.Laws.{begins_some, rest_none, rest_char, rest_more, rest_end, next_ascii}
+use Rattle.utf8.proofs.Laws.{rest_none, rest_char, rest_more, rest_end, next_ascii}
 use Rattle.numeral.specs.Entry.{reason_of}
 use Rattle.numeral.specs.Numeral.{base_code, numeral_of}
 use Rattle.numeral.specs.declared.NumberLiteral.{NumberLiteral}
@@ -44,21 +44,6 @@ use Rattle.lexer.proofs.Determined.{step_some, step_one}
 use Rattle.lexer.proofs.Scans.{run_first, white_ascii, class_white}
 
 -- ---- one step
-abbrev pub size_of : Found → ℕ
-size_of (Found.Skip n) = n
-size_of (Found.Token k n) = n
-size_of (Found.Number n) = n
-size_of (Found.Strange n) = n
-
-size_within : {s : List ℕ} (f : Found) → Scanned s (Ok f) → size_of f ≤ length s
-size_within f (Scanned.skip b r) = b.within
-size_within f (Scanned.token h b r) = b.within
-size_within f (Scanned.number b r) = b.within
-size_within f (Scanned.strange t b) = (begins_some b).1
-
-pub end_within : (text : List ℕ) (at : ℕ) {s : List ℕ} {f : Found} → at ≤ length text → s ≡ drop at text → Scanned s (Ok f) → (g : Found) → f ≡ g → at + size_of g ≤ length text
-end_within text at {s} {f} h e i g q = omega (arith, size_within f i, ap size_of q, ap length e, length-drop at text)
-
 -- what was found is f, here g
 found_at : {s : List ℕ} {f g : Found} → Scanned s (Ok f) → f ≡ g → Scanned s (Ok g)
 found_at {s} i q = subst (λ (f : Found). Scanned s (Ok f)) q i
@@ -104,12 +89,12 @@ module _ {text s : List ℕ} {at : ℕ} (h : at ≤ length text) (e : s ≡ drop
       go (Scanned.broken u) (Err f) w = Stepped.broken (rw e at u)
       go (Scanned.broken u) (Ok f) w = absurd (false≢true w)
 
-  module _ {f : Found} {n : ℕ} (i : Scanned s (Ok f)) (p : f ≡ Found.Number n) {a : Result NumberLiteral NumberParseError} (q : a ≡ numeral_of (take n s)) where
+  module _ {f : Found} {a : Result NumberLiteral NumberParseError} {n : ℕ} (i : Scanned s (Ok f)) (p : f ≡ Found.Number a n) where
     number_step : (j : Item) → item_of 1 a ≡ j → Reaches text at n j
     number_step j w = go (found_at i p)
       where
-        go : Scanned s (Ok (Found.Number n)) → Reaches text at n j
-        go (Scanned.number b r) = reaches (matched 1 b (sym w ∙ ap (item_of 1) q)) r
+        go : Scanned s (Ok (Found.Number a n)) → Reaches text at n j
+        go (Scanned.number b r q) = reaches (matched 1 b (sym w ∙ ap (item_of 1) q)) r
 
     pub literal_step : {l : NumberLiteral} → a ≡ Ok l → Stepped text at (Ok (Item.Literal l, n))
     literal_step w = Stepped.literal (number_step _ (ap (item_of 1) w))

@@ -21,6 +21,9 @@ use Rattle.patterns.proofs.Table.{below, small, within_is, subset}
 use Rattle.patterns.proofs.Runs.{Passed, passed_none, passed_more, passed_stop, passed_end, run_within, run_all, all_imp}
 use Rattle.utf8.specs.Utf8.{Begins, FirstChar, Rest, begins, nothing}
 use Rattle.utf8.proofs.Laws.{begins_some, begins_high, rest_none, rest_char, rest_ascii, rest_more, rest_stop, next_ascii}
+use Rattle.numeral.specs.Numeral.{numeral_of}
+use Rattle.numeral.specs.declared.NumberLiteral.{NumberLiteral}
+use Rattle.numeral.specs.declared.NumberParseError.{NumberParseError}
 use Rattle.tables.specs.TokenKinds.{IDENT, LPAREN, SEMI}
 use Rattle.lexer.specs.Kinds.{texts, fixed_of}
 use Rattle.lexer.specs.Classes.{class_of, KindIs, kind, no_kind}
@@ -230,9 +233,10 @@ module _ {s : List ℕ} {c : ℕ} (g : Begun s c) where
       least (kind a b d) = a
       least (no_kind b) = omega arith
 
-  pub found_numeral : {n : ℕ} → c ≡ 0xFF → n ≡ run (in_set word) s → Scanned s (Ok (Found.Number n))
-  found_numeral q e =
-      subst (λ (m : ℕ). Scanned s (Ok (Found.Number m))) (sym e) (Scanned.number (best_numeral s g.some (digit_is _ _ g.small g.class_is ∙ eq-eqb c 0xFF q)) (word_rest s))
+  pub found_numeral : {a : Result NumberLiteral NumberParseError} {n : ℕ} → c ≡ 0xFF → n ≡ run (in_set word) s → a ≡ numeral_of (take n s) → Scanned s (Ok (Found.Number a n))
+  found_numeral q e w =
+      let d = digit_is _ _ g.small g.class_is ∙ eq-eqb c 0xFF q in
+      Scanned.number (subst (Best s 1) (sym e) (best_numeral s g.some d)) (subst (Rest s) (sym e) (word_rest s)) w
 
   pub found_nothing : 0x80 ≤ c → c < 0xFE → Stuck s
   found_nothing h k = stuck s (omega (arith, g.class_is)) (omega (arith, g.class_is))

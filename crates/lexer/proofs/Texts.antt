@@ -19,7 +19,7 @@ use borrow.Author.Tests.{eqb-true, eqb-false, eq-eqb, ne_eqb, lt-ltb}
 use Rattle.patterns.specs.Bytes.{bytes, within, same, starts, Set, in_set, white, letter, digit, word, run}
 use Rattle.patterns.specs.Patterns.{All}
 use Rattle.patterns.proofs.Tests.{T_of, of_T, and_l, and_r, and_t, or_cases, implies, modus}
-use Rattle.patterns.proofs.Table.{every, at, below, below_law, byte_law, small, subset, within_is, within_of}
+use Rattle.patterns.proofs.Table.{below, below_law, byte_law, small, subset, within_is, within_of}
 use Rattle.patterns.proofs.Runs.{run_all}
 use Rattle.patterns.proofs.Words.{same_is, same_self}
 use Rattle.tables.specs.TokenKinds.{LPAREN, SEMI}
@@ -241,9 +241,6 @@ module _ {rows : List (ℕ × ℕ)} (t : MarkTable rows) (k d : ℕ) (e : ℕ ×
       go false y p q f = rw f (mark_missed (λ i h. eqb-false _ d p i))
 
 -- ---- classes
-pub table_rule : (f : ℕ → ℕ) (l : List ℕ) → T (every (λ k x. eqb x (f k)) 0 l) → length l ≡ 256 → (b : ℕ) → b < 256 → get_or l b 0 ≡ f b
-table_rule f l t n b h = eqb→eq _ _ (at (λ k x. eqb x (f k)) l t b (omega arith))
-
 classed : (f : Set) (k : ℕ) → T (small f) → T (below 256 (λ b. implies (in_set f b) (eqb (class_of b) k))) → (b : ℕ) → in_set f b ≡ true → class_of b ≡ k
 classed f k s t b h = eqb-true (class_of b) k (subset f (λ b. eqb (class_of b) k) s t b h)
 

@@ -1,12 +1,13 @@
 -- What the scanners answer. Assumes nothing.
-use Rattle.std.specs.Prelude.{◌≡◌, Bool, true, not, ◌&&◌, ◌==◌, nat_lt, List, [], ◌∷◌, ℕ, ◌+◌, ◌≤◌, ◌<◌, length, drop, get_or, Result, Ok, Err}
+use Rattle.std.specs.Prelude.{◌≡◌, Bool, true, not, ◌&&◌, ◌==◌, nat_lt, List, [], ◌∷◌, ℕ, ◌+◌, ◌≤◌, ◌<◌, length, take, drop, get_or, Result, Ok, Err}
 use Rattle.std.specs.List.{fold}
 use Rattle.patterns.specs.Bytes.{in_set, run}
 use Rattle.utf8.specs.Utf8.{Utf8, Begins, Rest}
 use Rattle.tables.specs.TokenKinds.{NUMBER}
 use Rattle.tables.specs.Codes.{suffix_code, reason_code}
-use Rattle.numeral.specs.Numeral.{base_code}
+use Rattle.numeral.specs.Numeral.{base_code, numeral_of}
 use Rattle.numeral.specs.declared.NumberLiteral.{NumberLiteral}
+use Rattle.numeral.specs.declared.NumberParseError.{NumberParseError}
 use Rattle.tables.specs.declared.entry_codes.Reason.{Reason}
 use Rattle.lexer.specs.Classes.{class_of}
 use Rattle.lexer.specs.Tokens.{Best, Stuck}
@@ -45,7 +46,7 @@ pub data LineIs (s : List ℕ) : Result ℕ NotUtf8 → Type 0 where
 pub data Scanned (s : List ℕ) : Result Found NotUtf8 → Type 0 where
   skip : {n : ℕ} → Best s 0 n → Rest s n → Scanned s (Ok (Found.Skip n))
   token : {k n : ℕ} → 2 ≤ k → Best s k n → Rest s n → Scanned s (Ok (Found.Token k n))
-  number : {n : ℕ} → Best s 1 n → Rest s n → Scanned s (Ok (Found.Number n))
+  number : {a : Result NumberLiteral NumberParseError} {n : ℕ} → Best s 1 n → Rest s n → a ≡ numeral_of (take n s) → Scanned s (Ok (Found.Number a n))
   strange : {c n : ℕ} → Stuck s → Begins s c n → Scanned s (Ok (Found.Strange n))
   broken : {e : NotUtf8} → (Utf8 s → ⊥) → Scanned s (Err e)
 

@@ -128,7 +128,7 @@ fn word_within(t: &[u8]) -> usize
     t.iter().take_while(|b| in_word(**b)).count()
 }
 
-// The same four bytes at a time, a name's or a numeral's size: LLVM unrolls what it reads of each four.
+// The same four bytes at a time, a name's size: LLVM unrolls what it reads of each four.
 pub fn word_run(t: &[u8]) -> usize
     ensures { result ≡ run (in_set word) t.now }
 {

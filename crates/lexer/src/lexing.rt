@@ -6,7 +6,7 @@ ghost use Rattle.lexer.specs.declared.lexing.TextError.TheVariants.{Encoding};
 
 use super::class::{WHITE, class_of};
 use super::scan::{Found, NotUtf8, scan};
-use numeral::{NumberLiteral, parse_number_literal};
+use numeral::NumberLiteral;
 use tables::entry_codes::{Reason, Suffix};
 use tables::token_type::TokenType;
 use tables::{Diagnostic, Entry, Token};
@@ -51,9 +51,9 @@ fn step(text: &[u8], at: usize, c: u8) -> Result<(Item, usize), NotUtf8>
     match scan(t, c)? {
         Found::Skip(n) => Ok((Item::Skipped, n)),
         Found::Token { kind, size } => Ok((Item::Token(kind), size)),
-        Found::Number(n) => match parse_number_literal(&t[..n]) {
-            Ok(literal) => Ok((Item::Literal(literal), n)),
-            Err(e) => Ok((Item::Error(Reason::from(e)), n)),
+        Found::Number { number, size } => match number {
+            Ok(literal) => Ok((Item::Literal(literal), size)),
+            Err(e) => Ok((Item::Error(Reason::from(e)), size)),
         },
         Found::Strange(n) => Ok((Item::Error(Reason::Character), n)),
     }

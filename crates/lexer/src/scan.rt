@@ -6,6 +6,7 @@ ghost use Rattle.lexer.specs.Scans.{Begun, all_plain, LineIs, Scanned};
 ghost use Rattle.lexer.specs.Tokens.{Stuck};
 
 use super::class::{DIGIT, LETTER, STRANGE, keyword, pair_of, word_run};
+use numeral::{NumberLiteral, NumberParseError, parse_number_literal};
 use tables::token_type::TokenType;
 use utf8::char_len;
 
@@ -13,8 +14,14 @@ use utf8::char_len;
 #[derive(Clone, Copy)]
 pub enum Found {
     Skip(usize),
-    Token { kind: u8, size: usize },
-    Number(usize),
+    Token {
+        kind: u8,
+        size: usize,
+    },
+    Number {
+        number: Result<NumberLiteral, NumberParseError>,
+        size: usize,
+    },
     Strange(usize),
 }
 
@@ -73,10 +80,11 @@ pub(crate) fn scan(t: &[u8], c: u8) -> Result<Found, NotUtf8>
     ensures { Scanned t.now result }
 {
     if c >= LETTER {
-        let size = word_run(t);
         if c == DIGIT {
-            return Ok(Found::Number(size));
+            let (number, size) = parse_number_literal(t);
+            return Ok(Found::Number { number, size });
         }
+        let size = word_run(t);
         let kind = keyword(&t[..size]).unwrap_or(TokenType::Identifier as u8);
         return Ok(Found::Token { kind, size });
     }

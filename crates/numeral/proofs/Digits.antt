@@ -1,56 +1,17 @@
 -- Digits and their reading. Assumes nothing.
 use mathlib.Core.Path.{◌≡◌, refl, sym, ap, ◌∙◌}
-use mathlib.Core.Bool.{Bool, true, false}
-use mathlib.Core.List.{List}
-use Prim.Native.Nat.{ℕ, ◌+◌, ◌-◌, ◌*◌, ◌/◌, ◌^◌, ◌≤◌, ◌<◌, zero-le}
+use mathlib.Core.Bool.{Bool, true, false, cond, not, ◌||◌}
+use mathlib.Core.Logic.{◌⊎◌, inl, inr}
+use Prim.Native.Nat.{ℕ, ◌+◌, ◌-◌, ◌*◌, ◌/◌, ◌^◌, ◌≤◌, ◌<◌}
 use native.Mathlib.Nat.{mul-le-mul_left, le-div_iff_mul-le, div-lt_iff_lt-mul}
-use native.Mathlib.Numerals.{add-one}
 use native.Mathlib.Omega.{arith}
-use native.Mathlib.Decide.{dec_le}
-use lib.Dec.{ltb, eqb, eqb→eq}
-use lib.ListN.{length, drop, get_or, drop_of_length-le}
-use lib.Seq.{drop-cons}
-use mir.Syntax.{w64}
-use mir.Val.{Fits}
-use borrow.Author.Tests.{lt-ltb, le-ltb, lt-leb, le-leb, ltb-true, ltb-false}
+use lib.Dec.{T, ltb, eqb}
+use borrow.Author.Tests.{lt-ltb, le-ltb, ltb-true, ltb-false}
+use Rattle.patterns.specs.Bytes.{in_set, digit, word}
 use Rattle.patterns.proofs.Table.{byte_law}
-use Rattle.std.specs.Prelude.{Option, Some, None, SomeIff}
-use Rattle.std.specs.Char.{digit_value}
-use Rattle.std.proofs.Common.{Ok, Err}
-use Rattle.tables.specs.declared.entry_codes.Suffix.{Suffix}
-use Rattle.numeral.specs.declared.Base.{Base}
-use Rattle.numeral.specs.declared.NumberParseError.{NumberParseError}
-use Rattle.numeral.specs.Numeral.{most, base_code, digit_of, digit_in, reading}
-
--- the library's value of a digit
-pub value_is : (b : ℕ) → digit_value b ≡ digit_of b
-unfolding digit_of
-value_is b = elim (dec_le 256 b) [ yes p ↦ high p | no p ↦ eqb→eq (digit_value b) (digit_of b) (byte_law (λ b. eqb (digit_value b) (digit_of b)) tt b (omega arith)) ]
-  where
-    high : 256 ≤ b → digit_value b ≡ digit_of b
-    high h =
-        rw (
-          le-ltb b 48 (omega arith),
-          le-ltb b 58 (omega arith),
-          le-ltb b 65 (omega arith),
-          le-ltb b 91 (omega arith),
-          le-ltb b 97 (omega arith),
-          le-ltb b 123 (omega arith),
-          lt-leb b 57 (omega arith),
-          lt-leb b 90 (omega arith),
-          lt-leb b 122 (omega arith),
-          le-leb 48 b (omega arith),
-          le-leb 65 b (omega arith),
-          le-leb 97 b (omega arith),
-        )
-
-pub is_digit : (base b d : ℕ) → d ≡ digit_of b → d < base → digit_in base b ≡ true
-unfolding digit_in
-is_digit base b d e h = rw (← e, lt-ltb d base h)
-
-pub no_digit : (base b d : ℕ) → d ≡ digit_of b → base ≤ d → digit_in base b ≡ false
-unfolding digit_in
-no_digit base b d e h = rw (← e, le-ltb d base h)
+use Rattle.numeral.proofs.Bases.{either_no}
+use Rattle.numeral.specs.Numeral.{most, digit_of}
+use Rattle.numeral.specs.Parser.{opens}
 
 -- the next digit takes a value past 64 bits: none below 2 ^ 60, and from there on by a division
 pub small_fits : (v base d : ℕ) → base ≤ 16 → d < base → v < 2 ^ 60 → false ≡ ltb most (v * base + d)
@@ -63,61 +24,37 @@ over_is v base d p q = go (ltb ((most - d) / base) v) refl
     go true e = sym (lt-ltb most (v * base + d) (omega (arith, (div-lt_iff_lt-mul {k = base} (omega arith)).0 (ltb-true _ _ e))))
     go false e = sym (le-ltb most (v * base + d) (omega (arith, (le-div_iff_mul-le {k = base} (omega arith)).0 (ltb-false _ _ e))))
 
-module _ (v base d : ℕ) (r : Bool) (e : r ≡ ltb most (v * base + d)) (q : r ≡ false) where
-  pub next_most : v * base + d ≤ most
-  next_most = ltb-false _ _ (sym e ∙ q)
+-- ---- letters, digits and `_`
+agree : (x y : Bool) → T (cond x y (not y)) → x ≡ y
+agree true true t = refl
+agree true false t = absurd t
+agree false true t = absurd t
+agree false false t = refl
 
-  pub next_fits : Fits w64 (v * base + d)
-  next_fits = record { fits = omega (arith, next_most) }
+word_is : (b : ℕ) → b < 256 → in_set word b ≡ (ltb (digit_of b) 36 || eqb b 95)
+unfolding word digit_of
+word_is b h = agree (in_set word b) (ltb (digit_of b) 36 || eqb b 95) (byte_law (λ b. let y = ltb (digit_of b) 36 || eqb b 95 in cond (in_set word b) y (not y)) tt b h)
 
-  pub product_fits : Fits w64 (v * base)
-  product_fits = record { fits = omega (arith, next_most) }
+pub digit_word : (b : ℕ) → b < 256 → digit_of b < 36 → in_set word b ≡ true
+digit_word b h d = word_is b h ∙ rw (lt-ltb (digit_of b) 36 d)
 
-at_least : (base c q : ℕ) → q ≡ base → (digit_value c < q → ⊥) → base ≤ digit_of c
-at_least base c q b g = elim (dec_le q (digit_value c)) [ yes p ↦ omega (arith, value_is c) | no p ↦ absurd (g (omega arith)) ]
+-- the test of a byte, by its value as a digit
+module _ (b d : ℕ) (h : b < 256) (e : d ≡ digit_of b) where
+  pub digit_byte : d < 36 → ltb d 36 ≡ in_set word b
+  digit_byte k = lt-ltb d 36 k ∙ sym (digit_word b h (omega (arith, e)))
 
--- ---- the loop of `from_str_radix`: the first i bytes give the value v
-pub record Read (base : Base) (x : Suffix) (s : List ℕ) (v i : ℕ) : Type 0 where
-  pub within : i ≤ length s
-  pub fits : v ≤ most
-  pub so_far : reading base x 0 s ≡ reading base x v (drop i s)
+  pub other_byte : 36 ≤ d → eqb b 95 ≡ in_set word b
+  other_byte k = sym (word_is b h ∙ rw (le-ltb (digit_of b) 36 (omega (arith, e))))
 
-module _ {base : Base} {x : Suffix} {s : List ℕ} where
-  pub read_none : Read base x s 0 0
-  read_none = record { within = zero-le; fits = zero-le; so_far = refl }
+  pub digit_first : ltb d 10 ≡ in_set digit b
+  unfolding digit digit_of
+  digit_first = ap (λ (d : ℕ). ltb d 10) e ∙ agree (ltb (digit_of b) 10) (in_set digit b) (byte_law (λ b. cond (ltb (digit_of b) 10) (in_set digit b) (not (in_set digit b))) tt b h)
 
-  pub read_more : {v i d : ℕ} {r : Bool} → Read base x s v i → i < length s → d ≡ digit_of (get_or s i 0) → d < base_code base → r ≡ ltb most (v * base_code base + d) → r ≡ false → Read base x s (v * base_code base + d) (i + 1)
-  unfolding reading
-  read_more {v} {i} {d} {r} p h e k o q =
-      record {
-        within = omega arith;
-        fits = next_most v (base_code base) d r o q;
-        so_far = p.so_far ∙ rw (add-one, drop-cons s i 0 h, is_digit (base_code base) _ d e k, ← e, ← o, q);
-      }
-
-  pub read_over : {v i d : ℕ} {r : Bool} → Read base x s v i → i < length s → d ≡ digit_of (get_or s i 0) → d < base_code base → r ≡ ltb most (v * base_code base + d) → r ≡ true → Err NumberParseError.Overflow ≡ reading base x 0 s
-  unfolding reading
-  read_over {v} {i} {d} {r} p h e k o q = sym (p.so_far ∙ rw (drop-cons s i 0 h, is_digit (base_code base) _ d e k, ← e, ← o, q))
-
-  pub read_format : {v i d : ℕ} → Read base x s v i → i < length s → d ≡ digit_of (get_or s i 0) → base_code base ≤ d → Err NumberParseError.InvalidFormat ≡ reading base x 0 s
-  unfolding reading
-  read_format {v} {i} {d} p h e k = sym (p.so_far ∙ rw (drop-cons s i 0 h, no_digit (base_code base) _ d e k))
-
-  -- what the library says of a digit
-  module _ {v i q c y : ℕ} {o : Option ℕ} (p : Read base x s v i) (h : i < length s) (e : c ≡ get_or s i 0) (j : q ≡ y) (z : y ≡ base_code base) (f : SomeIff o (digit_value c < q) (digit_value c)) where
-    pub step_format : o ≡ None → Err NumberParseError.InvalidFormat ≡ reading base x 0 s
-    step_format n = let g = rw n at f in read_format {d = digit_of c} p h (ap digit_of e) (at_least (base_code base) c q (j ∙ z) g)
-
-    module _ {d w r y' : ℕ} {t : Bool} (n : o ≡ Some d) (k : w ≡ d) (m : r ≡ y') (l : y' ≡ base_code base) (u : t ≡ ltb most (v * r + w)) where
-      told : (w ≡ digit_of c) × (w < base_code base)
-      told = let g = rw n at f in (k ∙ g.1 ∙ value_is c, omega (arith, k, j, z, g.0, g.1))
-
-      pub step_over : t ≡ true → Err NumberParseError.Overflow ≡ reading base x 0 s
-      step_over f = read_over {d = w} p h (told.0 ∙ ap digit_of e) told.1 (u ∙ ap (λ (j : ℕ). ltb most (v * j + w)) (m ∙ l)) f
-
-      pub step_more : t ≡ false → Read base x s (v * r + w) (i + 1)
-      step_more f = rw (m ∙ l) (read_more {d = w} p h (told.0 ∙ ap digit_of e) told.1 (u ∙ ap (λ (j : ℕ). ltb most (v * j + w)) (m ∙ l)) f)
-
-  pub read_end : {v i : ℕ} → Read base x s v i → length s ≤ i → Ok (record { value = v; suffix = x; base = base }) ≡ reading base x 0 s
-  unfolding reading
-  read_end {v} {i} p h = sym (p.so_far ∙ rw (drop_of_length-le s h))
+-- no suffix word begins with a digit below 15
+pub low_shut : (b : ℕ) → digit_of b < 15 → opens b ≡ false
+unfolding digit_of
+low_shut b h = either_no "f" "u" b no
+  where
+    no : (b ≡ 117) ⊎ (b ≡ 102) → ⊥
+    no (inl e) = omega (arith, ap digit_of e)
+    no (inr e) = omega (arith, ap digit_of e)

@@ -1,6 +1,10 @@
 pub mod Digits
-pub mod Cuts
-pub mod Rests
+pub mod Words
+pub mod States
+pub mod Windows
+pub mod Steps
+pub mod Bases
 pub mod Spellings
+pub mod OnePass
 pub mod Entries
 pub mod Examples

@@ -1,4 +1,4 @@
 pub mod Spelling
 pub mod Numeral
 pub mod Entry
-pub mod Steps
+pub mod Parser

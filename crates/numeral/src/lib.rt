@@ -1,13 +1,11 @@
 // The value, the suffix and the base of a numeral's spelling, after lexer.rs.
 #![tactic(auto)]
 
-ghost use Rattle.std.specs.Prelude.{◌≡◌, ◌+◌, ◌*◌, ◌≤◌, ◌<◌, unwrap_or, IfSome, ltb, length};
-ghost use Rattle.std.specs.Char.{is_digit};
-ghost use Rattle.std.specs.List.{list_all, take_while};
-ghost use Rattle.patterns.specs.Bytes.{in_set, word, run};
+ghost use Rattle.std.specs.Prelude.{◌≡◌, true, false, Some, None, ◌+◌, ◌*◌, ◌≤◌, ◌<◌, cond, ltb, List, ℕ, [], ◌∷◌, ◌++◌, take, get_or};
+ghost use Rattle.patterns.specs.Bytes.{in_set, either, word, digit, run};
 ghost use Rattle.numeral.specs.Entry.{AnswerIs, reason_of};
-ghost use Rattle.numeral.specs.Steps.{spelled};
-ghost use Rattle.numeral.specs.Numeral.{most, base_code, base_in, last_of, cut_at, cut_of, suffix_kind, reading, rest_of, numeral_of};
+ghost use Rattle.numeral.specs.Numeral.{most, base_code, base_in, digit_of, numeral_of};
+ghost use Rattle.numeral.specs.Parser.{Last, Ending, said, late, literal, WithDigit, BaseSet, NextCut, Ended, Upto, After, Reached, Step};
 
 use tables::entry_codes::{Reason, Suffix};
 
@@ -63,164 +61,338 @@ pub enum NumeralError {
     Lexical(NumberParseError),
 }
 
-// The next digit takes the value past 64 bits; below 2^60 none does. Tried: checked_mul and checked_add, which take 7 to 22 % more instructions for a numeral.
+// Below it no digit takes a value past 64 bits.
+const SMALL: u64 = 0x1000_0000_0000_0000;
+
+// The next digit takes the value past 64 bits. Tried: checked_mul and checked_add, which take 7 to 22 % more instructions for a numeral.
 fn overflows(v: u64, base: u64, d: u64) -> bool
     requires { (base ≤ 16) × (d < base) }
     ensures { result ≡ ltb most (v * base + d) }
 {
-    if v < 0x1000_0000_0000_0000 {
+    if v < SMALL {
         return false;
     }
     v > (u64::MAX - d) / base
 }
 
-// The value of a run of digits. The library's `u64::from_str_radix` takes a `&str`, and a `+` before the digits.
-fn from_str_radix(
-    number_str: &[u8],
-    base: Base,
-    suffix: Suffix,
-) -> Result<NumberLiteral, NumberParseError>
-    ensures { result ≡ reading base suffix 0 number_str.now }
+// `felt` and `u32` as numbers.
+const FELT: u64 = 0x6665_6c74;
+
+const U32: u64 = 0x75_3332;
+
+// By byte: a digit's value, the letters in either case from 10 on; 36 for a byte that is no digit. A test by ranges was measured: hexadecimal numerals took a fifth longer, since no branch foresees whether a digit is a letter.
+static DIGITS: [u8; 256] = [
+    36, 36, 36, 36, 36, 36, 36, 36, 36, 36, 36, 36, 36, 36, 36, 36, 36, 36, 36, 36, 36, 36, 36, 36,
+    36, 36, 36, 36, 36, 36, 36, 36, 36, 36, 36, 36, 36, 36, 36, 36, 36, 36, 36, 36, 36, 36, 36, 36,
+    0, 1, 2, 3, 4, 5, 6, 7, 8, 9, 36, 36, 36, 36, 36, 36, 36, 10, 11, 12, 13, 14, 15, 16, 17, 18,
+    19, 20, 21, 22, 23, 24, 25, 26, 27, 28, 29, 30, 31, 32, 33, 34, 35, 36, 36, 36, 36, 36, 36, 10,
+    11, 12, 13, 14, 15, 16, 17, 18, 19, 20, 21, 22, 23, 24, 25, 26, 27, 28, 29, 30, 31, 32, 33, 34,
+    35, 36, 36, 36, 36, 36, 36, 36, 36, 36, 36, 36, 36, 36, 36, 36, 36, 36, 36, 36, 36, 36, 36, 36,
+    36, 36, 36, 36, 36, 36, 36, 36, 36, 36, 36, 36, 36, 36, 36, 36, 36, 36, 36, 36, 36, 36, 36, 36,
+    36, 36, 36, 36, 36, 36, 36, 36, 36, 36, 36, 36, 36, 36, 36, 36, 36, 36, 36, 36, 36, 36, 36, 36,
+    36, 36, 36, 36, 36, 36, 36, 36, 36, 36, 36, 36, 36, 36, 36, 36, 36, 36, 36, 36, 36, 36, 36, 36,
+    36, 36, 36, 36, 36, 36, 36, 36, 36, 36, 36, 36, 36, 36, 36, 36, 36, 36, 36, 36, 36, 36, 36, 36,
+    36, 36, 36, 36, 36, 36, 36, 36, 36, 36, 36, 36, 36, 36,
+];
+
+fn digit_of(b: u8) -> u64
+    ensures { result ≡ digit_of b }
 {
-    let radix = u64::from(base.radix());
-    let mut value: u64 = 0;
-    for b in number_str {
-        let Some(digit) = char::from(*b).to_digit(u32::from(base.radix())) else {
-            return Err(NumberParseError::InvalidFormat);
-        };
-        let d = u64::from(digit);
-        if overflows(value, radix, d) {
-            return Err(NumberParseError::Overflow);
-        }
-        value = value * radix + d;
-    }
-    Ok(NumberLiteral {
-        value,
-        suffix,
-        base,
-    })
+    u64::from(DIGITS[b as usize])
 }
 
-// The place where the word last occurs.
-fn rfind(s: &[u8], w: &[u8]) -> Option<usize>
-    ensures value { unwrap_or result (length s.now) ≡ last_of w.now s.now }
-    ensures bound { IfSome result (λ k. k < length s.now) }
+// A letter, a digit or `_`.
+fn word_byte(b: u8, d: u64) -> bool
+    requires { d ≡ digit_of b }
+    ensures { result ≡ in_set word b }
 {
-    (0..s.len()).rev().find(|i| s[*i..].starts_with(w))
+    d < 36 || b == b'_'
 }
 
-// How many bytes from the start are digits of the base.
-fn digit_run(s: &[u8], base: Base) -> usize
-    ensures { result ≡ length (take_while (λ b. is_digit b (base_code base)) s.now) }
+// The base that a byte after a leading `0` sets.
+fn base_after_zero(b: u8) -> Base
+    ensures { result ≡ base_in (48 ∷ b ∷ []) }
 {
-    s.iter()
-        .take_while(|b| char::from(**b).is_digit(u32::from(base.radix())))
-        .count()
-}
-
-// The cut of a word of m bytes that last occurs there, in n bytes.
-fn cut_at(last: Option<usize>, m: usize, n: usize) -> usize
-    requires { IfSome last (λ k. k < n) }
-    ensures { result ≡ cut_at (unwrap_or last n) m n }
-{
-    match last {
-        Some(k) if k > 0 && n - k == m => k,
-        _ => n,
-    }
-}
-
-// Where the number ends and the suffix begins.
-fn digit_end(s: &[u8], base: Base) -> usize
-    ensures { result ≡ cut_of (base_code base) s.now }
-{
-    let n = s.len();
-    let felt = rfind(s, b"felt");
-    let word = rfind(s, b"u32");
-    if felt.or(word).is_none() {
-        return digit_run(s, base);
-    }
-    cut_at(felt, 4, n).min(cut_at(word, 3, n))
-}
-
-#[tactic(auto, unfolding(crate::specs::Numeral::suffix_kind))]
-fn suffix_kind(s: &[u8]) -> Suffix
-    ensures { result ≡ suffix_kind s.now }
-{
-    match s {
-        b"" => Suffix::Absent,
-        b"felt" => Suffix::Felt,
-        b"u32" => Suffix::U32,
-        _ => Suffix::Other,
-    }
-}
-
-// What the rest after the base's prefix says.
-fn parse_remaining(remaining: &[u8], base: Base) -> Result<NumberLiteral, NumberParseError>
-    ensures { result ≡ rest_of base remaining.now }
-{
-    if remaining.is_empty() {
-        return Err(NumberParseError::InvalidFormat);
-    }
-    let error = match from_str_radix(remaining, base, Suffix::Absent) {
-        Ok(literal) => return Ok(literal),
-        Err(error) => error,
-    };
-    let end = digit_end(remaining, base);
-    if end == 0 {
-        return Err(NumberParseError::InvalidFormat);
-    }
-    if end >= remaining.len() {
-        return Err(error);
-    }
-    if char::from(remaining[end]).is_digit(10) {
-        return Err(NumberParseError::InvalidFormat);
-    }
-    let suffix = suffix_kind(&remaining[end..]);
-    from_str_radix(&remaining[..end], base, suffix)
-}
-
-// The base that a leading 0x, 0o or 0b sets.
-fn base_of(slice: &[u8]) -> Base
-    ensures { result ≡ base_in slice.now }
-{
-    match slice {
-        [b'0', b'x' | b'X', ..] => Base::Hexadecimal,
-        [b'0', b'o' | b'O', ..] => Base::Octal,
-        [b'0', b'b' | b'B', ..] => Base::Binary,
+    match b {
+        b'x' | b'X' => Base::Hexadecimal,
+        b'o' | b'O' => Base::Octal,
+        b'b' | b'B' => Base::Binary,
         _ => Base::Decimal,
     }
 }
 
-// What a numeral's spelling says.
-pub fn parse_number_literal(slice: &[u8]) -> Result<NumberLiteral, NumberParseError>
-    ensures { result ≡ numeral_of slice.now }
+// The last four bytes as one number, with a byte more.
+#[tactic(auto, using(crate::proofs::Windows::last_on))]
+fn pushed(last: u64, b: u8) -> u64
+    ensures { (r : List ℕ) → Last r last → Last (r ++ b ∷ []) result }
 {
-    match base_of(slice) {
-        Base::Decimal => parse_remaining(slice, Base::Decimal),
-        base => parse_remaining(&slice[2..], base),
+    last % 0x0100_0000 * 0x100 + u64::from(b)
+}
+
+// The suffix word that they end with: `felt`, `u32` or none.
+fn word_at(last: u64) -> Suffix
+    ensures { (r : List ℕ) → Last r last → Ending r result }
+{
+    if last == FELT {
+        return Suffix::Felt;
+    }
+    if last % 0x0100_0000 == U32 {
+        return Suffix::U32;
+    }
+    Suffix::Absent
+}
+
+// What is known of a numeral after some of its bytes, whatever follows.
+#[derive(Clone, Copy)]
+struct NumberParser {
+    // Of the digits before the first other byte.
+    value: u64,
+    // What stands before the last `f` or `u`, as digits: a suffix word may begin there.
+    mark: Result<u64, NumberParseError>,
+    // All of it, as digits.
+    whole: Result<(), NumberParseError>,
+    // From the first byte on that is no digit: what the spelling says unless a suffix word ends it.
+    cut: Option<Result<(), NumberParseError>>,
+    radix: u64,
+    // The last four bytes as one number.
+    last: u64,
+    base: Base,
+    // Below it a digit only adds to the value: 0 after another byte or an overflow, and not above 15, as `f` moves the mark.
+    digits: u64,
+}
+
+const _: () = prove!(size_of::<NumberParser>() == 64);
+
+impl NumberParser {
+    // Before the first byte, and after those that set the base.
+    fn new(base: Base) -> NumberParser
+        ensures { Upto base [] result }
+    {
+        NumberParser {
+            value: 0,
+            mark: Err(NumberParseError::InvalidFormat),
+            whole: Err(NumberParseError::InvalidFormat),
+            cut: None,
+            radix: u64::from(base.radix()),
+            last: 0,
+            base,
+            digits: u64::from(base.radix()).min(15),
+        }
+    }
+
+    // The value of the digits, if there is one.
+    fn said(self, whole: Result<(), NumberParseError>) -> Result<u64, NumberParseError>
+        ensures { result ≡ said self.value whole }
+    {
+        match whole {
+            Ok(()) => Ok(self.value),
+            Err(e) => Err(e),
+        }
+    }
+
+    // What stands before the last `f` or `u`, with a byte more.
+    fn marked(self, b: u8) -> Result<u64, NumberParseError>
+        ensures { result ≡ cond (in_set (either "f" "u") b) (said self.value self.whole) self.mark }
+    {
+        match b {
+            b'f' | b'u' => self.said(self.whole),
+            _ => self.mark,
+        }
+    }
+
+    // The digits so far give no value of 64 bits.
+    fn late(self) -> bool
+        ensures { result ≡ late self.whole }
+    {
+        match self.whole {
+            Err(NumberParseError::Overflow) => true,
+            _ => false,
+        }
+    }
+
+    // The value with a digit more.
+    fn with_digit(self, d: u64) -> Result<u64, NumberParseError>
+        requires { (self.radix ≤ 16) × (d < self.radix) }
+        ensures { WithDigit self d result }
+    {
+        if self.late() {
+            return Err(NumberParseError::Overflow);
+        }
+        if overflows(self.value, self.radix, d) {
+            return Err(NumberParseError::Overflow);
+        }
+        Ok(self.value * self.radix + d)
+    }
+
+    // With a byte more; None if no numeral goes on with it. Most digits stay within the first test.
+    fn step(self, b: u8) -> Option<NumberParser>
+        requires reached { Reached self }
+        ensures { Step self b result }
+    {
+        let d = digit_of(b);
+        if d < self.digits && self.value < SMALL {
+            return Some(NumberParser {
+                value: self.value * self.radix + d,
+                whole: Ok(()),
+                last: pushed(self.last, b),
+                ..self
+            });
+        }
+        self.any_step(b)
+    }
+
+    fn any_step(self, b: u8) -> Option<NumberParser>
+        requires reached { Reached self }
+        ensures { Step self b result }
+    {
+        let d = digit_of(b);
+        if !word_byte(b, d) {
+            return None;
+        }
+        let last = pushed(self.last, b);
+        let mark = self.marked(b);
+        if self.takes(d) {
+            return Some(match self.with_digit(d) {
+                Ok(value) => NumberParser {
+                    value,
+                    whole: Ok(()),
+                    mark,
+                    last,
+                    ..self
+                },
+                Err(e) => NumberParser {
+                    whole: Err(e),
+                    mark,
+                    last,
+                    digits: 0,
+                    ..self
+                },
+            });
+        }
+        if let Some(base) = self.base_set(b) {
+            return Some(NumberParser::new(base));
+        }
+        Some(self.ended(self.next_cut(d), mark, last))
+    }
+
+    // The byte is one digit more, and no other byte stands before it.
+    fn takes(self, d: u64) -> bool
+        ensures yes { result ≡ true → (self.cut ≡ None) × (d < self.radix) }
+        ensures no { result ≡ false → self.cut ≡ None → self.radix ≤ d }
+    {
+        match self.cut {
+            None => d < self.radix,
+            Some(_) => false,
+        }
+    }
+
+    // The base that a byte sets, after `0` alone.
+    #[tactic(auto, using(crate::specs::Parser::set, crate::specs::Parser::unset))]
+    fn base_set(self, b: u8) -> Option<Base>
+        ensures { BaseSet self b result }
+    {
+        if self.last != 0x30 {
+            return None;
+        }
+        if self.radix != 10 {
+            return None;
+        }
+        match base_after_zero(b) {
+            Base::Decimal => None,
+            base => Some(base),
+        }
+    }
+
+    // What is said unless a suffix word ends the spelling. A first other byte that is a decimal digit is an error.
+    #[tactic(auto, using(crate::specs::Parser::kept, crate::specs::Parser::decimal, crate::specs::Parser::first))]
+    fn next_cut(self, d: u64) -> Result<(), NumberParseError>
+        ensures { NextCut self d result }
+    {
+        match self.cut {
+            Some(cut) => cut,
+            None if d < 10 => Err(NumberParseError::InvalidFormat),
+            None => self.whole,
+        }
+    }
+
+    // After a byte that is no digit, or after such a byte.
+    fn ended(
+        self,
+        cut: Result<(), NumberParseError>,
+        mark: Result<u64, NumberParseError>,
+        last: u64,
+    ) -> NumberParser
+        ensures { Ended self cut mark last result }
+    {
+        let e = match self.whole {
+            Ok(()) => NumberParseError::InvalidFormat,
+            Err(e) => e,
+        };
+        let cut = match word_at(last) {
+            Suffix::Absent => cut,
+            _ => Err(e),
+        };
+        NumberParser {
+            whole: Err(e),
+            cut: Some(cut),
+            mark,
+            last,
+            digits: 0,
+            ..self
+        }
+    }
+
+    // What a spelling of these bytes says.
+    fn finish(self) -> Result<NumberLiteral, NumberParseError>
+        ensures { (s : List ℕ) → After s self → result ≡ numeral_of s }
+    {
+        match self.cut {
+            None => self.literal(self.said(self.whole), Suffix::Absent),
+            Some(cut) => match word_at(self.last) {
+                Suffix::Absent => self.literal(self.said(cut), Suffix::Other),
+                suffix => self.literal(self.mark, suffix),
+            },
+        }
+    }
+
+    fn literal(
+        self,
+        said: Result<u64, NumberParseError>,
+        suffix: Suffix,
+    ) -> Result<NumberLiteral, NumberParseError>
+        ensures { result ≡ literal self.base suffix said }
+    {
+        said.map(|value| NumberLiteral {
+            value,
+            suffix,
+            base: self.base,
+        })
     }
 }
 
-// A letter, a digit or `_`. The lexer's own `in_word` goes by its table.
-fn word_byte(b: u8) -> bool
-    ensures { result ≡ in_set word b }
+// The longest numeral at the start of a text: what it says, and how many bytes it has. Each byte is looked at once.
+pub fn parse_number_literal(t: &[u8]) -> (Result<NumberLiteral, NumberParseError>, usize)
+    ensures size { result.1 ≡ run (in_set word) t.now }
+    ensures value { result.0 ≡ numeral_of (take result.1 t.now) }
 {
-    b == b'_' || b.is_ascii_alphanumeric()
+    let mut number = NumberParser::new(Base::Decimal);
+    let mut size: usize = 0;
+    for b in t {
+        let Some(next) = number.step(*b) else {
+            break;
+        };
+        number = next;
+        size += 1;
+    }
+    (number.finish(), size)
 }
 
-fn all_words(s: &[u8]) -> bool
-    ensures { result ≡ list_all (in_set word) s.now }
-{
-    s.iter().all(|b| word_byte(*b))
-}
-
-// A digit first, then letters, digits and `_`.
-fn is_spelling(s: &[u8]) -> bool
-    ensures { result ≡ spelled s.now }
+fn begins_with_digit(s: &[u8]) -> bool
+    ensures { result ≡ in_set digit (get_or s.now 0 0) }
 {
     match s {
-        [b'0'..=b'9', ..] => all_words(s),
-        _ => false,
+        [] => false,
+        [b, ..] => digit_of(*b) < 10,
     }
 }
 
@@ -231,8 +403,12 @@ pub fn answer(spelling: &[u8]) -> Result<NumberLiteral, NumeralError>
     if spelling.len() > 65535 {
         return Err(NumeralError::Long);
     }
-    if !is_spelling(spelling) {
+    let (number, size) = parse_number_literal(spelling);
+    if !begins_with_digit(spelling) {
         return Err(NumeralError::Spelling);
     }
-    parse_number_literal(spelling).map_err(NumeralError::Lexical)
+    if size < spelling.len() {
+        return Err(NumeralError::Spelling);
+    }
+    number.map_err(NumeralError::Lexical)
 }

@@ -81,6 +81,12 @@ pub all_head : (f : ℕ → Bool) (s : List ℕ) → 1 ≤ length s → All f s 
 all_head f [] h a = absurd (omega arith)
 all_head f (b ∷ s) h a = a.0
 
+-- it is one run
+pub run_whole : (f : ℕ → Bool) (s : List ℕ) → All f s → run f s ≡ length s
+unfolding run
+run_whole f [] a = refl
+run_whole f (b ∷ s) a = rw (a.0, run_whole f s a.1)
+
 -- ---- names
 pub letter_word : (b : ℕ) → in_set letter b ≡ true → in_set word b ≡ true
 unfolding letter word

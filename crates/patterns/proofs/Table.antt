@@ -7,7 +7,7 @@ use Prim.Native.Nat.{ℕ, zero, suc, ◌+◌, ◌≤◌, ◌<◌}
 use Prim.Native.Char.{code}
 use native.Mathlib.Nat.{add-zero, zero-add, add-suc, suc-add}
 use native.Mathlib.Omega.{arith}
-use lib.Dec.{T, leb, ltb, leb→le, le→leb, ltb→lt}
+use lib.Dec.{T, leb, ltb, eqb, eqb→eq, leb→le, le→leb, ltb→lt}
 use lib.ListN.{length, get_or, replicate}
 use Rattle.patterns.specs.Bytes.{within, Set, in_set}
 use Rattle.patterns.proofs.Tests.{T_of, of_T, and_l, and_r, and_t, or_cases, implies, modus}
@@ -26,6 +26,10 @@ from f (x ∷ xs) i t (suc k) h =
 
 pub at : (f : ℕ → ℕ → Bool) (xs : List ℕ) → T (every f 0 xs) → (k : ℕ) → k < length xs → T (f k (get_or xs k 0))
 at f xs t k h = subst (λ (m : ℕ). T (f m (get_or xs k 0))) (zero-add k) (from f xs 0 t k h)
+
+-- a table of the values of f at each byte
+pub table_rule : (f : ℕ → ℕ) (l : List ℕ) → T (every (λ k x. eqb x (f k)) 0 l) → length l ≡ 256 → (b : ℕ) → b < 256 → get_or l b 0 ≡ f b
+table_rule f l t n b h = eqb→eq _ _ (at (λ k x. eqb x (f k)) l t b (omega arith))
 
 -- the test passes at every number below n
 abbrev pub below : ℕ → (ℕ → Bool) → Bool

@@ -1,15 +1,19 @@
-use borrow.Author.Rules.{rules}
-use Rattle.numeral.proofs.Rests.{base_long, ten_is, other_is}
+use Rattle.numeral.proofs.Steps.{way_none, way_more, way_stop, way_end, way_after}
+use Rattle.numeral.proofs.parse_number_literal.Goals.{else-loop-b-test, then-loop-b-test+in_default}
 use Rattle.numeral.proofs.parse_number_literal.Goals as goal
 
-pub returns-in-Decimal : goal.returns-in-Decimal
-returns-in-Decimal c = search (rules, ten_is)
+pub loop-b-init : goal.loop-b-init
+loop-b-init c = way_none c.new-number.ensures
 
-pub slice_bounds-parse_remaining-count : goal.slice_bounds-parse_remaining-count
-slice_bounds-parse_remaining-count c = search (rules, base_long)
+pub loop-b-preserved : goal.loop-b-preserved
+loop-b-preserved c = way_more c.loop-b.invariant c.loop-b-test.true c.in-Some.ensures
 
-pub slice_bounds-parse_remaining-start : goal.slice_bounds-parse_remaining-start
-slice_bounds-parse_remaining-start c = search (rules, base_long)
+pub returns-clause-size : goal.returns-clause-size
+returns-clause-size c =
+    elim c.loop-b-test.branch [
+      | else-loop-b-test w ↦ way_end c.loop-b.invariant w.loop-b-test.false
+      | then-loop-b-test+in_default w ↦ way_stop c.loop-b.invariant w.loop-b-test.true w.in_default.ensures
+    ]
 
-pub returns-in_default : goal.returns-in_default
-returns-in_default c = search (rules, other_is)
+pub returns-clause-value : goal.returns-clause-value
+returns-clause-value c = c.finish.ensures _ (way_after c.loop-b.invariant)

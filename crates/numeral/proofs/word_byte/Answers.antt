@@ -1,9 +1,9 @@
 use borrow.Author.Rules.{rules}
-use Rattle.numeral.proofs.Entries.{under_word, word_is}
+use Rattle.numeral.proofs.Digits.{digit_byte, other_byte}
 use Rattle.numeral.proofs.word_byte.Goals as goal
 
-pub returns-then-b-eq95 : goal.returns-then-b-eq95
-returns-then-b-eq95 c = search (rules, under_word)
+pub returns-then-d-lt36 : goal.returns-then-d-lt36
+returns-then-d-lt36 c = search (rules, digit_byte)
 
-pub returns-else-b-eq95 : goal.returns-else-b-eq95
-returns-else-b-eq95 c = search (rules, word_is)
+pub returns-else-d-lt36 : goal.returns-else-d-lt36
+returns-else-d-lt36 c = search (rules, other_byte)

@@ -1,7 +1,7 @@
 use mathlib.Core.Path.{refl}
 use Rattle.lexer.specs.Classes.{class_of}
 use Rattle.lexer.specs.declared.class.TheConstants.{CLASS}
-use Rattle.lexer.proofs.Texts.{table_rule}
+use Rattle.patterns.proofs.Table.{table_rule}
 use Rattle.lexer.proofs.class.class_of.Goals as goal
 
 pub returns : goal.returns

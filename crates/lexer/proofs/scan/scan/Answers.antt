@@ -15,7 +15,7 @@ marked : {s : List ℕ} {c : ℕ} → Begun s c → c < 0x80 → Marked s c
 marked b h = record { begun = b; low = h }
 
 pub returns-then-c-eq-DIGIT : goal.returns-then-c-eq-DIGIT
-returns-then-c-eq-DIGIT c = found_numeral c.requires.begun (search) (search)
+returns-then-c-eq-DIGIT c = found_numeral c.requires.begun (search) (search) (cc)
 
 pub slice_bounds-keyword-end : goal.slice_bounds-keyword-end
 slice_bounds-keyword-end c = simp length-take (omega (arith, run_within (in_set word) c.args.t.now))
