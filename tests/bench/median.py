@@ -3,7 +3,7 @@
 
     tests/bench/median.py FILE..
 
-The files are what tests/bench/compare.rs prints: the same lines but for what was measured.
+The files are what tests/bench/compare.rs or older.c prints: the same lines but for what was measured.
 """
 
 import re
