@@ -120,9 +120,6 @@ words_differ q p e =
     cc
 
 -- ---- a word occurs, or none does
-pub never_none : Never []
-never_none w x k o h e = omega arith
-
 -- a word that occurs in r with a byte more, but not in r, ends it
 pub never_on : (r : List ℕ) (b : ℕ) → Never r → ((q w : List ℕ) (x : Suffix) → Word w x → r ++ b ∷ [] ≡ q ++ w → ⊥) → Never (r ++ b ∷ [])
 never_on r b n f w x k o h e =

@@ -80,7 +80,7 @@ const FELT: u64 = 0x6665_6c74;
 
 const U32: u64 = 0x75_3332;
 
-// By byte: a digit's value, the letters in either case from 10 on; 36 for a byte that is no digit. A test by ranges was measured: hexadecimal numerals took a fifth longer, since no branch foresees whether a digit is a letter.
+// By byte: a digit's value, the letters in either case from 10 on; 36 for a byte that is no digit. With a test by ranges hexadecimal numerals took nearly half as long again, since no branch foresees whether a digit is a letter.
 static DIGITS: [u8; 256] = [
     36, 36, 36, 36, 36, 36, 36, 36, 36, 36, 36, 36, 36, 36, 36, 36, 36, 36, 36, 36, 36, 36, 36, 36,
     36, 36, 36, 36, 36, 36, 36, 36, 36, 36, 36, 36, 36, 36, 36, 36, 36, 36, 36, 36, 36, 36, 36, 36,
