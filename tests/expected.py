@@ -420,6 +420,13 @@ def long_cases(cases):
         cases.numeral(spelling)
 
 
+def number_cases(cases):
+    """How often a byte stands, above 64 bits: the digits that do not fit are passed over, so the text fills the program's place."""
+    outcome, value, suffix, base, reason = numeral_entry(b"1" * 65600)
+    cases.line("n 31*99999999999999999999.", f"n {outcome} {value} {suffix} {base} {reason} long")
+    cases.line("u 61*18446744073709551616.", "u 1 1")
+
+
 def all_cases():
     cases = Cases()
 
@@ -520,6 +527,9 @@ def all_cases():
 
     cases.section("the longest texts")
     long_cases(cases)
+
+    cases.section("numbers that do not fit")
+    number_cases(cases)
     return cases
 
 

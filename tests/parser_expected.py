@@ -2526,6 +2526,10 @@ def run_cases(cases):
         text, at = unmarked(after)
         stop = len(kinds(before)) + times * len(kinds(part)) + at
         cases.line(f"r {times} {words(before)} {words(part)} {words(text)}", f"{SYNTAX} {stop} 0")
+    # a kind is the last eight bits of its number: a token of 3, `const`, and a name
+    cases.line("p 4096 32 259 0 0 5 0 0 20 0 6 7 0 0 const a", f"{SYNTAX} 2 0")
+    # the kinds of a part that stands no times are not passed: 3 kinds follow, 1, 3 and none
+    cases.line("r 0 0 1 3 1 3", f"{SYNTAX} 0 0")
     # a run of what is nested is too deep
     for before, part, after in (("const A =", "(", "1;"), ("const A =", "[", "1;"), ("fn f()", "{", "}"), ("const A: ", "(", "T = 1;")):
         cases.line(f"r 16000 {words(before)} {words(part)} {words(after)}", f"{DEEP} 0")

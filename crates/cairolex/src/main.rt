@@ -5,7 +5,7 @@ mod kind;
 mod rows;
 
 use cairo_m::{Refusal, counts_of, outcome_of};
-use case_io::{UsedEntries, with_input};
+use case_io::{UsedEntries, read_input, room};
 use lexer::lex_alone;
 use rows::{DiagnosticRow, TokenRow};
 use std::fmt::Display;
@@ -15,7 +15,9 @@ use tables::{Diagnostic, Entry, Token};
 
 // Reads one byte more than the longest text, so that a longer one is seen to be too long.
 fn main(rt: HostRuntime) -> io::Result<()> {
-    with_input::<65536, _, _>(&mut rt.stdin(), |text| list(&mut rt.stdout(), text))
+    let mut space = room::<65536>();
+    let text = read_input(&mut rt.stdin(), &mut space)?;
+    list(&mut rt.stdout(), text)
 }
 
 // [["Const",0,5,0,0,0],..] or {"refused":3,"diagnostics":[[0,1,1],..]}.

@@ -2,7 +2,7 @@
 #![tactic(auto)]
 
 use cairo_m::read;
-use case_io::{line, list_answer, with_input};
+use case_io::{line, list_answer, read_input, room};
 use listing::ListError;
 use std::io;
 use std::io::Write;
@@ -10,9 +10,9 @@ use tables::{Diagnostic, Entry, Node, Token};
 
 // Reads one byte more than the longest text, so that a longer one is seen to be too long.
 fn main(rt: HostRuntime) -> io::Result<()> {
-    with_input::<65536, _, _>(&mut rt.stdin(), |text| {
-        answer(&mut rt.stdout(), &mut rt.stderr(), text)
-    })
+    let mut space = room::<65536>();
+    let text = read_input(&mut rt.stdin(), &mut space)?;
+    answer(&mut rt.stdout(), &mut rt.stderr(), text)
 }
 
 // The listing of 1,024 entries has less than 65,536 bytes.

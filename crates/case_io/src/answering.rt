@@ -1,24 +1,20 @@
 // From a program's input to its answers.
-ghost use Rattle.std.specs.Prelude.{◌<◌, ◌^◌, List, ℕ, length, OnOk, OnSome, IfNone};
-ghost use Rattle.std.specs.Io.KnownBytes.{Consumes};
+ghost use Rattle.std.specs.Prelude.{◌<◌, List, ℕ, length, IfOk, OnOk, OnSome, IfNone};
+ghost use Rattle.std.specs.Io.KnownBytes.{Consumes, IsAtEnd};
 
 use crate::cases::Cases;
-use crate::{fill, room};
+use crate::fill;
 use std::io;
 use std::io::{Read, Write};
 
-// Reads the input, N bytes of it at most, and hands them on.
-pub fn with_input<const N: usize, R: Read, F: FnOnce(&[u8]) -> io::Result<()>>(
-    input: &mut R,
-    answer: F,
-) -> io::Result<()>
-    requires fits { N < 2 ^ 63 }
-    requires answers { F.IsAlwaysCallable answer }
-    ensures { OnOk result ((text : _) × F.post answer text result × Consumes (R.remaining input.old) (R.remaining input.new) text.now) }
+// The input, as much of it as there is room for. The place is lent, and the text handed back: a function that is called with
+// the text would take a `requires`, that it can be called.
+pub fn read_input<'a, R: Read>(input: &mut R, bytes: &'a mut [u8]) -> io::Result<&'a [u8]>
+    ensures read { IfOk result (λ text. Consumes (R.remaining input.old) (R.remaining input.new) text.now) }
+    ensures at_end { IfOk result (λ text. length text.now < length bytes.old → IsAtEnd (R.remaining input.new)) }
 {
-    let mut bytes = room::<N>();
-    let n = fill(input, &mut bytes)?;
-    answer(&bytes[..n])
+    let n = fill(input, bytes)?;
+    Ok(&bytes[..n])
 }
 
 // A case of a file.

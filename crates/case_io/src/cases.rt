@@ -2,8 +2,6 @@
 ghost use Rattle.std.specs.Prelude.{◌≡◌, ◌≤◌, ◌<◌, ◌+◌, ◌==◌, IfSome, OnSome, IfNone, take, drop, length, [], ◌∷◌};
 ghost use Rattle.std.specs.List.{position_or_len, before_first, after_first};
 
-use std::str::FromStr;
-
 // The bytes that are left to read.
 #[derive(Clone, Copy)]
 pub struct Cases<'a> {
@@ -25,10 +23,8 @@ impl<'a> Cases<'a> {
         self.bytes(line_end(all))
     }
 
-    // The decimal number that comes next, 0 where it is too large; the byte that ends it is passed.
-    pub fn number<N: FromStr + Default>(&mut self) -> N
-    where
-        N::Err: Drop,
+    // The decimal number that comes next, without the digits that do not fit; the byte that ends it is passed.
+    pub fn number(&mut self) -> usize
         ensures never_back { length self.new.rest.now ≤ length self.old.rest.now }
         ensures further { 0 < length self.old.rest.now → length self.new.rest.now < length self.old.rest.now }
     {
@@ -39,10 +35,7 @@ impl<'a> Cases<'a> {
             .unwrap_or(all.len());
         let (digits, rest) = all.split_at(end);
         self.rest = rest.get(1..).unwrap_or(&[]);
-        str::from_utf8(digits)
-            .ok()
-            .and_then(|text| text.parse().ok())
-            .unwrap_or_default()
+        digits.iter().fold(0, |value, b| with_digit(value, *b))
     }
 
     // The next n bytes, and the byte after them is passed.
@@ -67,4 +60,16 @@ fn line_end(bytes: &[u8]) -> usize
         .iter()
         .position(|b| *b == b'\n')
         .unwrap_or(bytes.len())
+}
+
+// One digit more, as long as the number fits.
+fn with_digit(value: usize, b: u8) -> usize {
+    if b < b'0' {
+        return value;
+    }
+    let digit = (b - b'0') as usize;
+    if value > (0xFFFF_FFFF_FFFF_FFFF - digit) / 10 {
+        return value;
+    }
+    value * 10 + digit
 }

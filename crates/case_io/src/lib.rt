@@ -11,7 +11,7 @@ mod used;
 ghost use Rattle.std.specs.Prelude.{◌≡◌, ◌≤◌, ◌<◌, ◌∷◌, [], ◌++◌, length, take, replicate, IfOk, OnOk};
 ghost use Rattle.std.specs.Io.KnownBytes.{Appends, Consumes, IsAtEnd};
 
-pub use answering::{Case, answer_all, with_input};
+pub use answering::{Case, answer_all, read_input};
 pub use cases::Cases;
 pub use listed::list_answer;
 pub use rows::{Row, Spelled};

@@ -7,6 +7,7 @@ use native.Mathlib.Omega.{arith}
 use lib.Dec.{T as Yes}
 use lib.ListN.{length}
 use Rattle.tables.proofs.Laws.{tokens_length}
+use Rattle.patterns.proofs.Tests.{and_r}
 use Rattle.grammar.specs.Derive.{G, S, got, Derives}
 use Rattle.grammar.specs.Grammar.{body}
 use Rattle.grammar.proofs.On.{on_of}
@@ -54,6 +55,10 @@ size w p n = if_reading p.status (ahead_of w p * 64 + n + 1)
 -- a grammar that takes a token, as far as that is told by looking
 abbrev pub takes? : G → Bool
 takes? g = eats solid g && sane? solid g
+
+-- such a one is sane
+pub sane_of : (g : G) → Yes (takes? g) → Yes (sane? solid g)
+sane_of g a = and_r (eats solid g) _ a
 
 further_on : (text w : List ℕ) (g : G) {p q : Cursor} {s t : S} (a c : Bool) → eats solid g ≡ a → sane? solid g ≡ c → Represents p s → Represents q t → Derives body (input text w) g s (got t)
     → ahead_of w q + one_if (a && c) ≤ ahead_of w p

@@ -13,15 +13,14 @@ use Rattle.tables.proofs.Laws.{tokens_at}
 use Rattle.grammar.specs.Derive.{Input, token, skip, take, G, many, S, none, yields, Derives, stepped}
 use Rattle.grammar.specs.Grammar.{body, tok, opt, another, entries, list}
 use Rattle.grammar.proofs.Unique.{unique, apart}
-use Rattle.grammar.proofs.Progress.{eats}
-use Rattle.patterns.proofs.Tests.{and_r}
+use Rattle.grammar.proofs.Progress.{sane?}
 use Rattle.grammar.proofs.Whole.{solid}
 use Rattle.cursor.specs.Entries.{input}
 use Rattle.cursor.specs.Read.{reached, Reads, still, Step}
 use Rattle.cursor.specs.Steps.{rewound}
 use Rattle.cursor.specs.declared.Cursor.{Cursor}
 use Rattle.cursor.proofs.Laws.{clash, status_as, no_less, reread, idle, nothing, ◌then◌, first, absent, pass, many_miss, fine, opt_never, never_failed, one_step}
-use Rattle.cursor.proofs.Falls.{takes?, Ahead, on, on_step, ◌and_on◌, at_here, was, weaken}
+use Rattle.cursor.proofs.Falls.{Ahead, on, on_step, ◌and_on◌, at_here, was, weaken}
 use Rattle.cursor.proofs.Loops.{Looping, rounds_begin, rounds_next, rounds_end, rounds_miss, rounds_off}
 use Rattle.cursor.specs.declared.Status.TheVariants.{Reading, Failed}
 
@@ -76,13 +75,13 @@ module _ {text w : List ℕ} where
           list_of y₀ n₀ (rounds_end L₀ (was (on_step c₀) z) (one_step c₀ then y) o refl) (rw e (first (reread (reached q) (no_less y o) (one_step c₀)) m))
 
   -- no comma follows
-  pub listing_miss : {k : ℕ} {g : G} {p₀ p q : Cursor} {T₀ T U : List ℕ} → Yes (takes? g) → Listing text w g p₀ T₀ p T → Reads g text w p T q U → (q.status ≡ Failed → ⊥) → length U ≡ length T
+  pub listing_miss : {k : ℕ} {g : G} {p₀ p q : Cursor} {T₀ T U : List ℕ} → Yes (sane? solid g) → Listing text w g p₀ T₀ p T → Reads g text w p T q U → (q.status ≡ Failed → ⊥) → length U ≡ length T
       → k ≡ (token_at w q.at).kind → (k ≡ COMMA → ⊥) → Reads (list g) text w p₀ T₀ q U
   listing_miss {g = g} {p₀} {p} {q} {T₀} {T} {U} a L y n h e f = go L.so_far y
     where
       go : SoFar text w g p₀ T₀ p T → Reads g text w p T q U → Reads (list g) text w p₀ T₀ q U
-      go (none_yet i j) y = list_of (rw (i, j) at y) n (many_miss e (f, tt) (and_r (eats solid g) _ a)) (no_comma e f)
-      go (past_comma y₀ n₀ L₀ c₀ m) y = list_of y₀ n₀ (rounds_miss (rounds_next L₀ (one_step c₀ then y) n (h ∙ L₀.kept)) e (f, tt) (and_r (eats solid g) _ a)) (no_comma e f)
+      go (none_yet i j) y = list_of (rw (i, j) at y) n (many_miss e (f, tt) a) (no_comma e f)
+      go (past_comma y₀ n₀ L₀ c₀ m) y = list_of y₀ n₀ (rounds_miss (rounds_next L₀ (one_step c₀ then y) n (h ∙ L₀.kept)) e (f, tt) a) (no_comma e f)
 
   -- it is not reading
   pub listing_off : {g : G} {p₀ p : Cursor} {T₀ T : List ℕ} → Listing text w g p₀ T₀ p T → (p.status ≡ Reading → ⊥) → Reads (list g) text w p₀ T₀ p T

@@ -240,6 +240,13 @@ module _ {rows : List (ℕ × ℕ)} (t : MarkTable rows) (k d : ℕ) (e : ℕ ×
       go true true p q f = rw f (mark_missed (λ i h. omega (arith, eqb-true _ 0 q)))
       go false y p q f = rw f (mark_missed (λ i h. eqb-false _ d p i))
 
+  -- the same, with the byte told first
+  pub not_picked : (its_row.0 ≡ d → ⊥) → KindIs 21 50 (fixed_of k ++ d ∷ []) None
+  not_picked f = mark_missed (λ i h. f i)
+
+  pub picked_next : {r : Option ℕ} → its_row.0 ≡ d → r ≡ then_some (not (eqb its_row.1 0)) its_row.1 → KindIs 21 50 (fixed_of k ++ d ∷ []) r
+  picked_next p f = picked (f ∙ ap (λ x. then_some (x && not (eqb its_row.1 0)) its_row.1) (sym (eq-eqb its_row.0 d p)))
+
 -- ---- classes
 classed : (f : Set) (k : ℕ) → T (small f) → T (below 256 (λ b. implies (in_set f b) (eqb (class_of b) k))) → (b : ℕ) → in_set f b ≡ true → class_of b ≡ k
 classed f k s t b h = eqb-true (class_of b) k (subset f (λ b. eqb (class_of b) k) s t b h)

@@ -158,12 +158,16 @@ pub fn keyword(w: &[u8]) -> Option<u8>
 }
 
 // The kind of the mark of two bytes that a mark of kind c and the byte d make.
-pub fn pair_of(c: u8, d: u8) -> Option<u8>
+pub(crate) fn pair_of(c: u8, d: u8) -> Option<u8>
     requires { (NOT ≤ c) × (c ≤ DOT) }
     ensures { KindIs NOT DOT (fixed_of c ++ d ∷ []) result }
 {
     let (next, kind) = &PAIRS[c as usize - TokenType::Not as usize];
-    ((*next == d) & (*kind != 0)).then_some(*kind)
+    // A return of its own keeps this a branch. Of one test for both LLVM makes a conditional move, and the next token waits for its answer.
+    if *next != d {
+        return None;
+    }
+    (*kind != 0).then_some(*kind)
 }
 
 // The key of a word of n bytes that begins with these two.

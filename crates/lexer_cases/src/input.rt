@@ -5,23 +5,25 @@ use arrayvec::ArrayVec;
 use case_io::Cases;
 use std::iter::repeat_n;
 
-// `XX` is a byte, `*N.` says that the last byte stands N times, and a lone byte at the end says nothing. What there is
-// no room for is left out.
-pub fn bytes(spelled: &[u8]) -> ArrayVec<u8, 65600> {
-    let mut text = ArrayVec::new();
+// Longer than the longest text. What there is no room for is left out.
+pub type Text = ArrayVec<u8, 65600>;
+
+// Adds the bytes that are spelled to a text, which is lent: handed out it would be copied. `XX` is a byte, `*N.` says that the
+// last byte stands N times, and a lone byte at the end says nothing.
+pub fn bytes(spelled: &[u8], text: &mut Text) {
     let mut case = Cases { rest: spelled };
     loop {
         let (byte, times) = match case.rest {
             [b'*', rest @ ..] => {
                 case.rest = rest;
                 let last = text.last().copied().unwrap_or(0);
-                (last, case.number::<usize>().saturating_sub(1))
+                (last, case.number().saturating_sub(1))
             }
             [high, low, rest @ ..] => {
                 case.rest = rest;
                 (nibble(*high) * 16 + nibble(*low), 1)
             }
-            _ => return text,
+            _ => return,
         };
         text.extend(repeat_n(byte, times)).ok();
     }

@@ -6,17 +6,17 @@ mod lexing;
 
 ghost use Rattle.std.specs.Prelude.{◌≡◌, []};
 
-use case_io::{Case, Cases, answer_all, with_input};
-use input::bytes;
+use case_io::{Case, Cases, answer_all, read_input, room};
+use input::{Text, bytes};
 use numeral::{NumberLiteral, NumeralError};
 use std::io::Write;
 use std::{fmt, io};
 use tables::entry_codes::Reason;
 
 fn main(rt: HostRuntime) -> io::Result<()> {
-    with_input::<262144, _, _>(&mut rt.stdin(), |file| {
-        answer_all::<Line<'_>, _>(file, &mut rt.stdout())
-    })
+    let mut space = room::<262144>();
+    let file = read_input(&mut rt.stdin(), &mut space)?;
+    answer_all::<Line<'_>, _>(file, &mut rt.stdout())
 }
 
 // A case is a line, whose first letter says what it asks. A heading is printed as it stands.
@@ -32,11 +32,18 @@ impl<'a> Case<'a> for Line<'a> {
     }
 
     fn answer<W: Write>(self, out: &mut W) -> io::Result<()> {
+        let mut text = Text::new();
         match self.0 {
             [] | [_] | [_, _] => return Ok(()),
-            [b'u', _, spelled @ ..] => utf8_case(out, bytes(spelled).as_slice())?,
-            [b'n', _, spelled @ ..] => numeral_case(out, bytes(spelled).as_slice())?,
-            [b'l', _, rest @ ..] => lexing_case(out, Cases { rest })?,
+            [b'u', _, spelled @ ..] => {
+                bytes(spelled, &mut text);
+                utf8_case(out, text.as_slice())?
+            }
+            [b'n', _, spelled @ ..] => {
+                bytes(spelled, &mut text);
+                numeral_case(out, text.as_slice())?
+            }
+            [b'l', _, rest @ ..] => lexing_case(out, Cases { rest }, &mut text)?,
             heading => out.write_all(heading)?,
         }
         writeln!(out)
@@ -93,9 +100,9 @@ impl fmt::Display for Shown {
 }
 
 // l T D BYTES: lexing with T bytes of token table and D bytes of diagnostics.
-fn lexing_case<W: Write>(out: &mut W, mut case: Cases<'_>) -> io::Result<()> {
+fn lexing_case<W: Write>(out: &mut W, mut case: Cases<'_>, text: &mut Text) -> io::Result<()> {
     let token_bytes = case.number();
     let diagnostic_bytes = case.number();
-    let text = bytes(case.rest);
+    bytes(case.rest, text);
     lexing::answer(out, text.as_slice(), token_bytes, diagnostic_bytes)
 }

@@ -7,13 +7,22 @@ use tables::{Entry, Token};
 pub fn tokens(case: &mut Cases<'_>, table: &mut [u8]) {
     for i in 0..Token::room(table) {
         let token = Token {
-            kind: case.number(),
-            suffix: case.number(),
-            start: case.number(),
-            end: case.number(),
-            value: case.number(),
-            base: case.number(),
+            kind: byte(case.number()),
+            suffix: byte(case.number()),
+            start: half(case.number()),
+            end: half(case.number()),
+            value: case.number() as u64,
+            base: byte(case.number()),
         };
         token.put(table, i);
     }
+}
+
+// The last bits of a number, as many as a field has.
+pub fn byte(n: usize) -> u8 {
+    (n % 0x100) as u8
+}
+
+fn half(n: usize) -> u16 {
+    (n % 0x1_0000) as u16
 }

@@ -7,14 +7,14 @@ mod tree;
 
 ghost use Rattle.std.specs.Prelude.{◌≡◌, []};
 
-use case_io::{Case, Cases, answer_all, with_input};
+use case_io::{Case, Cases, answer_all, read_input, room};
 use std::io;
 use std::io::Write;
 
 fn main(rt: HostRuntime) -> io::Result<()> {
-    with_input::<524288, _, _>(&mut rt.stdin(), |file| {
-        answer_all::<Line<'_>, _>(file, &mut rt.stdout())
-    })
+    let mut space = room::<524288>();
+    let file = read_input(&mut rt.stdin(), &mut space)?;
+    answer_all::<Line<'_>, _>(file, &mut rt.stdout())
 }
 
 // A case is a line, whose first letter says what it asks. A heading is printed as it stands.

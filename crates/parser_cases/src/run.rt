@@ -1,4 +1,5 @@
 // A long run of tokens, which are kinds alone: a reader that took the stack for each of them would not end.
+use crate::given::byte;
 use crate::tree;
 use arrayvec::ArrayVec;
 use case_io::{Cases, UsedEntries};
@@ -16,7 +17,12 @@ pub fn answer<W: Write>(out: &mut W, mut case: Cases<'_>) -> io::Result<()> {
     let times = case.number();
     let mut all = Kinds::new();
     for n in [1, times, 1] {
-        let kinds = given(&mut case);
+        let count = case.number();
+        // Kinds that stand no times are not passed: the next number is the first of them.
+        if n == 0 {
+            continue;
+        }
+        let kinds = given(&mut case, count);
         for _ in 0..n {
             all.extend(kinds.iter().copied()).ok();
         }
@@ -33,11 +39,11 @@ pub fn answer<W: Write>(out: &mut W, mut case: Cases<'_>) -> io::Result<()> {
     tree::answer(out, b"", used.bytes(), &mut [])
 }
 
-// A number, and so many kinds.
-fn given(case: &mut Cases<'_>) -> Kinds {
+// So many kinds.
+fn given(case: &mut Cases<'_>, count: usize) -> Kinds {
     let mut kinds = Kinds::new();
-    for _ in 0..case.number() {
-        kinds.try_push(case.number()).ok();
+    for _ in 0..count {
+        kinds.try_push(byte(case.number())).ok();
     }
     kinds
 }

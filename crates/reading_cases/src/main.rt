@@ -3,12 +3,12 @@
 
 mod reading;
 
-use case_io::{answer_all, with_input};
+use case_io::{answer_all, read_input, room};
 use reading::Reading;
 use std::io;
 
 fn main(rt: HostRuntime) -> io::Result<()> {
-    with_input::<524288, _, _>(&mut rt.stdin(), |file| {
-        answer_all::<Reading<'_>, _>(file, &mut rt.stdout())
-    })
+    let mut space = room::<524288>();
+    let file = read_input(&mut rt.stdin(), &mut space)?;
+    answer_all::<Reading<'_>, _>(file, &mut rt.stdout())
 }

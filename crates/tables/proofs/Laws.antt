@@ -8,7 +8,7 @@ use native.Mathlib.Decide.{dec_lt}
 use lib.ListN.{length, get_or, take, drop, set, replicate, length-append, length-take, length-drop, length-replicate, get_or-eq_default}
 use lib.Seq.{take-nil, take_all, take-append-le, take-append-add, drop-append-add, take_at, drop_at, drop-drop, sets, sets-eq, get_or-take, get_or-drop, ext_get_or}
 use borrow.Author.Tests.{lt-ltb, le-ltb}
-use Rattle.tables.specs.Tables.{Token, Node, Diagnostic, le16, le64, encode_token, encode_node, encode_diagnostic, joined, filled, table, laid, stored, cleared, kept, number, entry_at, decode_token, decode_node, token_at, node_at, token_table, node_table, tabulate, tokens_of}
+use Rattle.tables.specs.Tables.{Token, Node, Diagnostic, le16, le64, encode_token, encode_node, encode_diagnostic, joined, filled, table, laid, stored, cleared, kept, number, entry_at, decode_token, decode_node, decode_diagnostic, token_at, node_at, diagnostic_at, token_table, node_table, diagnostic_table, tabulate, tokens_of}
 
 abbrev zeros : ℕ → List ℕ
 zeros n = replicate n 0
@@ -260,6 +260,11 @@ pub record NodeFits (n : Node) : Type 0 where
   pub children_fits : n.children < 65536
   pub value_fits : n.value < 2 ^ 64
 
+pub record DiagnosticFits (d : Diagnostic) : Type 0 where
+  pub start_fits : d.start < 65536
+  pub end_fits : d.end < 65536
+  pub reason_fits : d.reason < 256
+
 half_decoded : (v : ℕ) → v < 65536 → v % 256 + 256 * (v / 256 % 256 + 256 * 0) ≡ v
 half_decoded v h = omega arith
 
@@ -282,11 +287,21 @@ unfolding encode_node le16 le64 number
 node_decoded n h =
     rw (add-zero n.kind, add-zero n.base, half_decoded n.start h.start_fits, half_decoded n.end h.end_fits, half_decoded n.children h.children_fits, word_decoded n.value h.value_fits)
 
+diagnostic_decoded : (d : Diagnostic) → DiagnosticFits d → decode_diagnostic (encode_diagnostic d) ≡ d
+unfolding encode_diagnostic le16 number
+diagnostic_decoded t h =
+    rw (half_decoded t.start h.start_fits, half_decoded t.end h.end_fits, add-zero t.reason)
+
 pub token_read : (n : ℕ) (ts : List Token) (i : ℕ) (d : Token) → i < length ts → i < n / 16 → TokenFits (get_or ts i d) → token_at (token_table n ts) i ≡ get_or ts i d
 token_read n ts i d h k fits = ap decode_token (entry_stored encode_token 16 (omega arith) token_size n ts i d h k) ∙ token_decoded (get_or ts i d) fits
 
 pub node_read : (n : ℕ) (ns : List Node) (i : ℕ) (d : Node) → i < length ns → i < n / 16 → NodeFits (get_or ns i d) → node_at (node_table n ns) i ≡ get_or ns i d
 node_read n ns i d h k fits = ap decode_node (entry_stored encode_node 16 (omega arith) node_size n ns i d h k) ∙ node_decoded (get_or ns i d) fits
+
+pub diagnostic_read : (n : ℕ) (ds : List Diagnostic) (i : ℕ) (d : Diagnostic) → i < length ds → i < n / 8 → DiagnosticFits (get_or ds i d)
+    → diagnostic_at (diagnostic_table n ds) i ≡ get_or ds i d
+diagnostic_read n ds i d h k fits =
+    ap decode_diagnostic (entry_stored encode_diagnostic 8 (omega arith) diagnostic_size n ds i d h k) ∙ diagnostic_decoded (get_or ds i d) fits
 
 -- a token of kind 0, all else 0 too
 abbrev pub zero_token : Token
@@ -306,6 +321,11 @@ pub node_past : (n : ℕ) (ns : List Node) (i : ℕ) → length ns ≤ i → nod
 node_past n ns i h =
     let past = number_past encode_node 16 (omega arith) node_size n ns i h in
     rw (past 0 1 (omega arith), past 1 1 (omega arith), past 2 2 (omega arith), past 4 2 (omega arith), past 6 2 (omega arith), past 8 8 (omega arith))
+
+pub diagnostic_past : (n : ℕ) (ds : List Diagnostic) (i : ℕ) → length ds ≤ i → diagnostic_at (diagnostic_table n ds) i ≡ record { start = 0; end = 0; reason = 0 }
+diagnostic_past n ds i h =
+    let past = number_past encode_diagnostic 8 (omega arith) diagnostic_size n ds i h in
+    rw (past 0 2 (omega arith), past 2 2 (omega arith), past 4 1 (omega arith))
 
 -- ---- all tokens of a table
 module _ {A : Type 0} where
