@@ -62,7 +62,7 @@ fn line_end(bytes: &[u8]) -> usize
         .unwrap_or(bytes.len())
 }
 
-// One digit more, as long as the number fits.
+// One digit more, as long as the number fits. `parse` refuses a number that does not fit, where a case passes over the digits.
 fn with_digit(value: usize, b: u8) -> usize {
     if b < b'0' {
         return value;
