@@ -15,35 +15,45 @@ type Kinds = ArrayVec<u8, MOST>;
 // r N A KINDS B KINDS C KINDS: A kinds, N times B kinds, and C kinds. No node is stored: they are counted.
 pub fn answer<W: Write>(out: &mut W, mut case: Cases<'_>) -> io::Result<()> {
     let times = case.number();
-    let mut all = Kinds::new();
+    let mut kinds = Kinds::new();
+    let mut tokens = [0; MOST * Token::SIZE];
+    let mut end = 0;
     for n in [1, times, 1] {
         let count = case.number();
         // Kinds that stand no times are not passed: the next number is the first of them.
         if n == 0 {
             continue;
         }
-        let kinds = given(&mut case, count);
+        given(&mut case, count, &mut kinds);
         for _ in 0..n {
-            all.extend(kinds.iter().copied()).ok();
+            end = lay(kinds.as_slice(), &mut tokens, end);
         }
     }
-    let mut tokens = [0; MOST * Token::SIZE];
-    for (i, kind) in all.iter().enumerate() {
+    let used = UsedEntries::<Token>::new(&tokens, end);
+    tree::answer(out, b"", used.bytes(), &mut [])
+}
+
+// So many kinds, in a place that is lent: handed out it would be copied.
+fn given(case: &mut Cases<'_>, count: usize, kinds: &mut Kinds) {
+    kinds.clear();
+    for _ in 0..count {
+        kinds.try_push(byte(case.number())).ok();
+    }
+}
+
+// Lays a token of each kind into the table from an entry on, and answers the entry after them.
+fn lay(kinds: &[u8], tokens: &mut [u8], from: usize) -> usize {
+    let mut end = from;
+    for kind in kinds {
+        if end >= MOST {
+            return end;
+        }
         let token = Token {
             kind: *kind,
             ..Token::default()
         };
-        token.put(&mut tokens, i);
+        token.put(tokens, end);
+        end += 1;
     }
-    let used = UsedEntries::<Token>::new(&tokens, all.len());
-    tree::answer(out, b"", used.bytes(), &mut [])
-}
-
-// So many kinds.
-fn given(case: &mut Cases<'_>, count: usize) -> Kinds {
-    let mut kinds = Kinds::new();
-    for _ in 0..count {
-        kinds.try_push(byte(case.number())).ok();
-    }
-    kinds
+    end
 }
