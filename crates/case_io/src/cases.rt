@@ -2,6 +2,8 @@
 ghost use Rattle.std.specs.Prelude.{◌≡◌, ◌≤◌, ◌<◌, ◌+◌, ◌==◌, IfSome, OnSome, IfNone, take, drop, length, [], ◌∷◌};
 ghost use Rattle.std.specs.List.{position_or_len, before_first, after_first};
 
+use std::str::FromStr;
+
 // The bytes that are left to read.
 #[derive(Clone, Copy)]
 pub struct Cases<'a> {
@@ -23,8 +25,25 @@ impl<'a> Cases<'a> {
         self.bytes(line_end(all))
     }
 
+    // The decimal number that comes next, of any type that is read from its digits, and the type's default where that refuses
+    // them; the byte that ends it is passed.
+    pub fn number<N: FromStr + Default>(&mut self) -> N
+    where
+        N::Err: Drop,
+        ensures never_back { length self.new.rest.now ≤ length self.old.rest.now }
+        ensures further { 0 < length self.old.rest.now → length self.new.rest.now < length self.old.rest.now }
+    {
+        let all = self.rest;
+        self.number_that_fits();
+        let digits = all.split(|b| !b.is_ascii_digit()).next().unwrap_or(&[]);
+        str::from_utf8(digits)
+            .ok()
+            .and_then(|text| text.parse().ok())
+            .unwrap_or_default()
+    }
+
     // The decimal number that comes next, without the digits that do not fit; the byte that ends it is passed.
-    pub fn number(&mut self) -> usize
+    pub fn number_that_fits(&mut self) -> usize
         ensures never_back { length self.new.rest.now ≤ length self.old.rest.now }
         ensures further { 0 < length self.old.rest.now → length self.new.rest.now < length self.old.rest.now }
     {
@@ -51,7 +70,7 @@ impl<'a> Cases<'a> {
     }
 }
 
-// The place of the first line feed, or the end. `number` looks for its end in the same way: one function for both would take a closure, and be no shorter.
+// The place of the first line feed, or the end. `number_that_fits` looks for its end in the same way: one function for both would take a closure, and be no shorter.
 fn line_end(bytes: &[u8]) -> usize
     ensures within { result ≤ length bytes.now }
     ensures first { result ≡ position_or_len (λ b. b == 10) bytes.now }
@@ -72,4 +91,29 @@ fn with_digit(value: usize, b: u8) -> usize {
         return value;
     }
     value * 10 + digit
+}
+
+#[cfg(test)]
+mod tests {
+    use super::*;
+
+    // What each type reads of its digits is known from Rust's `parse`.
+    #[test]
+    fn numbers_of_several_types(rt: HostRuntime) {
+        let mut cases = Cases {
+            rest: b"7 255,256\n18446744073709551615 18446744073709551616 1208925819614629174706176\xFFx 9",
+        };
+        assert_eq!(rt; cases.number::<u16>(), 7);
+        assert_eq!(rt; cases.number::<u8>(), 255);
+        assert_eq!(rt; cases.number::<u8>(), 0, "it does not fit");
+        assert_eq!(rt; cases.number::<usize>(), 0xFFFF_FFFF_FFFF_FFFF);
+        assert_eq!(rt; cases.number::<usize>(), 0, "it does not fit");
+        assert_eq!(rt; cases.number::<u128>(), 1 << 80);
+        assert_eq!(rt; cases.number::<u8>(), 0, "there is no digit");
+        assert_eq!(rt; cases.rest, b" 9".as_slice());
+        assert_eq!(rt; cases.number::<u8>(), 0, "there is no digit");
+        assert_eq!(rt; cases.number::<u8>(), 9);
+        assert_eq!(rt; cases.number::<u8>(), 0, "there is no byte");
+        assert_eq!(rt; cases.rest, b"".as_slice());
+    }
 }

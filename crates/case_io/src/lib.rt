@@ -1,5 +1,6 @@
 // What the programs share: reading their input, going through its cases, printing a table's entries.
-// The contracts say what keeps a caller safe. What is read and written is held to the case files.
+// The contracts say what keeps a caller safe. What is read and written is held to the case files, and what `Cases::number` reads
+// to the test beside it.
 #![tactic(auto)]
 
 mod answering;

@@ -17,7 +17,7 @@ pub fn bytes(spelled: &[u8], text: &mut Text) {
             [b'*', rest @ ..] => {
                 case.rest = rest;
                 let last = text.last().copied().unwrap_or(0);
-                (last, case.number().saturating_sub(1))
+                (last, case.number_that_fits().saturating_sub(1))
             }
             [high, low, rest @ ..] => {
                 case.rest = rest;

@@ -101,8 +101,8 @@ impl fmt::Display for Shown {
 
 // l T D BYTES: lexing with T bytes of token table and D bytes of diagnostics.
 fn lexing_case<W: Write>(out: &mut W, mut case: Cases<'_>, text: &mut Text) -> io::Result<()> {
-    let token_bytes = case.number();
-    let diagnostic_bytes = case.number();
+    let token_bytes = case.number_that_fits();
+    let diagnostic_bytes = case.number_that_fits();
     bytes(case.rest, text);
     lexing::answer(out, text.as_slice(), token_bytes, diagnostic_bytes)
 }

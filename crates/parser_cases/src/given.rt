@@ -7,12 +7,12 @@ use tables::{Entry, Token};
 pub fn tokens(case: &mut Cases<'_>, table: &mut [u8]) {
     for i in 0..Token::room(table) {
         let token = Token {
-            kind: byte(case.number()),
-            suffix: byte(case.number()),
-            start: half(case.number()),
-            end: half(case.number()),
-            value: case.number() as u64,
-            base: byte(case.number()),
+            kind: byte(case.number_that_fits()),
+            suffix: byte(case.number_that_fits()),
+            start: half(case.number_that_fits()),
+            end: half(case.number_that_fits()),
+            value: case.number_that_fits() as u64,
+            base: byte(case.number_that_fits()),
         };
         token.put(table, i);
     }

@@ -44,8 +44,8 @@ fn parsing_case<W: Write>(out: &mut W, mut case: Cases<'_>) -> io::Result<()> {
     let mut nodes = [0xAA; 16384];
     let mut tokens = [0xAA; 16384];
     let (Some(nodes), Some(tokens)) = (
-        nodes.get_mut(..case.number()),
-        tokens.get_mut(..case.number()),
+        nodes.get_mut(..case.number_that_fits()),
+        tokens.get_mut(..case.number_that_fits()),
     ) else {
         return Ok(());
     };

@@ -14,12 +14,12 @@ type Kinds = ArrayVec<u8, MOST>;
 
 // r N A KINDS B KINDS C KINDS: A kinds, N times B kinds, and C kinds. No node is stored: they are counted.
 pub fn answer<W: Write>(out: &mut W, mut case: Cases<'_>) -> io::Result<()> {
-    let times = case.number();
+    let times = case.number_that_fits();
     let mut kinds = Kinds::new();
     let mut tokens = [0; MOST * Token::SIZE];
     let mut end = 0;
     for n in [1, times, 1] {
-        let count = case.number();
+        let count = case.number_that_fits();
         // Kinds that stand no times are not passed: the next number is the first of them.
         if n == 0 {
             continue;
@@ -37,7 +37,7 @@ pub fn answer<W: Write>(out: &mut W, mut case: Cases<'_>) -> io::Result<()> {
 fn given(case: &mut Cases<'_>, count: usize, kinds: &mut Kinds) {
     kinds.clear();
     for _ in 0..count {
-        kinds.try_push(byte(case.number())).ok();
+        kinds.try_push(byte(case.number_that_fits())).ok();
     }
 }
 

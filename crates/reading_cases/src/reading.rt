@@ -25,10 +25,10 @@ impl<'a> Case<'a> for Reading<'a> {
         if cases.rest.is_empty() {
             return None;
         }
-        let tokens = cases.number();
-        let nodes = cases.number();
-        let diagnostics = cases.number();
-        let size = cases.number();
+        let tokens = cases.number_that_fits();
+        let nodes = cases.number_that_fits();
+        let diagnostics = cases.number_that_fits();
+        let size = cases.number_that_fits();
         Some(Reading {
             tokens,
             nodes,
