@@ -25,8 +25,8 @@ impl<'a> Cases<'a> {
         self.bytes(line_end(all))
     }
 
-    // The decimal number that comes next, of any type that is read from its digits, and the type's default where that refuses
-    // them; the byte that ends it is passed.
+    // The decimal number that comes next, read as any type that has `FromStr`, or the default of the type where `parse` refuses
+    // the digits; the byte that ends it is passed.
     pub fn number<N: FromStr + Default>(&mut self) -> N
     where
         N::Err: Drop,
